@@ -1,0 +1,4 @@
+-- The definitions that the contracts cite.
+pub mod Name
+-- The same rule as a grammar, for the reader: a theorem says that the two agree.
+pub mod Grammar

@@ -1,0 +1,41 @@
+-- Domain names in a field of octets. Document 01, "Name option".
+use Prim.Native.Nat.{ℕ, zero, suc}
+use mathlib.Core.Bool.{Bool, true, false, cond}
+use mathlib.Core.List.{List, [], _∷_}
+use lib.Dec.{ltb, leb}
+use lib.ListN.{length}
+use Rattle.octets.specs.Compare.{sameOctets}
+use Rattle.dname.specs.declared.Shape.{Shape}
+use Rattle.dname.specs.declared.Shape.the-variants.{Empty, Full, Partial, Malformed}
+
+-- Document 01, "Name option": one label followed by a shorter name, or the end. The number says how many octets of the label
+-- that has begun are still to come. Where none are, the field ends there (partial), its last octet is 0 (full), or the length
+-- of a label follows, 1 to 63.
+unfoldable pub labelsOf : ℕ → List ℕ → Shape
+labelsOf (suc left) [] = Malformed
+labelsOf (suc left) (x ∷ rest) = labelsOf left rest
+labelsOf zero [] = Partial
+labelsOf zero (zero ∷ []) = Full
+labelsOf zero (zero ∷ x ∷ rest) = Malformed
+labelsOf zero (suc n ∷ rest) = elim (ltb n 63) [ true ↦ labelsOf (suc n) rest | false ↦ Malformed ]
+
+-- Document 01, "Name option": a full name has at most 255 octets, a partial one at most 254.
+unfoldable pub limited : Shape → ℕ → Shape
+limited Full octets = cond (leb octets 255) Full Malformed
+limited Partial octets = cond (leb octets 254) Partial Malformed
+limited Empty octets = Malformed
+limited Malformed octets = Malformed
+
+-- Document 01, "Name option": what a whole field holds. A name has a label, so the octet 0 alone is malformed.
+unfoldable pub shapeOf : List ℕ → Shape
+shapeOf [] = Empty
+shapeOf (zero ∷ rest) = Malformed
+shapeOf (suc n ∷ rest) = limited (labelsOf 0 (suc n ∷ rest)) (length (suc n ∷ rest))
+
+-- Document 01, "Name option": names are equal when their octets are. Two names are equal exactly when their keys are, and every
+-- rule that compares names goes by the key.
+unfoldable pub key : List ℕ → List ℕ
+key name = name
+
+unfoldable pub sameName : List ℕ → List ℕ → Bool
+sameName a b = sameOctets (key a) (key b)
