@@ -5,40 +5,41 @@ ghost use Rattle.fqdn.specs.Flags.{Honoured, flagAnswer};
 // Refusal 10, as a result has it: 10 times 65536.
 const R: u32 = 655360;
 
-// Rows of eight: neither bit may be honoured, S, N, both.
+// The answers, at the place that the lowest three bits of the flags octet and what may be honoured
+// give.
 const ANSWERS: [u32; 32] = [
-    0,
-    2,
-    R,
-    R,
-    0,
-    R,
-    R,
-    R,
-    0,
-    1,
-    R,
-    R,
-    0,
-    R,
-    R,
-    R,
-    0,
-    2,
-    R,
-    R,
-    4,
-    R,
-    R,
-    R,
-    0,
-    1,
-    R,
-    R,
-    4,
-    R,
-    R,
-    R,
+    0, // neither honoured: no bit
+    2, // neither honoured: S
+    R, // neither honoured: O
+    R, // neither honoured: O and S
+    0, // neither honoured: N
+    R, // neither honoured: N and S
+    R, // neither honoured: N and O
+    R, // neither honoured: N, O and S
+    0, // S honoured: no bit
+    1, // S honoured: S
+    R, // S honoured: O
+    R, // S honoured: O and S
+    0, // S honoured: N
+    R, // S honoured: N and S
+    R, // S honoured: N and O
+    R, // S honoured: N, O and S
+    0, // N honoured: no bit
+    2, // N honoured: S
+    R, // N honoured: O
+    R, // N honoured: O and S
+    4, // N honoured: N
+    R, // N honoured: N and S
+    R, // N honoured: N and O
+    R, // N honoured: N, O and S
+    0, // both honoured: no bit
+    1, // both honoured: S
+    R, // both honoured: O
+    R, // both honoured: O and S
+    4, // both honoured: N
+    R, // both honoured: N and S
+    R, // both honoured: N and O
+    R, // both honoured: N, O and S
 ];
 
 // 0 for no, 1 for any other number.

@@ -1,0 +1,2 @@
+-- The proof that the cases hold.
+pub mod CasesHold

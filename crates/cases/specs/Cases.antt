@@ -1,0 +1,47 @@
+-- Document 01, "Proof cases": what the definitions that the promises cite come to on each case. No rule is defined here.
+use mathlib.Core.Path.{_≡_}
+use mathlib.Core.List.{List, [], _∷_, _++_}
+use Prim.Native.Nat.{ℕ}
+use lib.ListN.{replicate}
+use Rattle.fqdn.specs.Flags.{refusal, flagAnswer}
+use Rattle.fqdn.specs.Answer.{answerOf, octetsOf, resultOf}
+
+-- A case: what is asked, and what is to come of it.
+pub data Case : Type 0 where
+  -- the flag decision for a flags octet, S honoured or not, N honoured or not: the number answered
+  flags : ℕ → ℕ → ℕ → ℕ → Case
+  -- the answer to an option value with a suffix, neither bit honoured, in a buffer of 256 octets: the octets written and the number answered
+  option : List ℕ → List ℕ → List ℕ → ℕ → Case
+
+unfoldable pub Holds : Case → Type 0
+Holds (flags f s n number) = flagAnswer f s n ≡ number
+Holds (option value suffix octets number) =
+    (octetsOf (answerOf value suffix 0 0 256) value suffix ≡ octets) × (resultOf (answerOf value suffix 0 0 256) octets ≡ number)
+
+unfoldable pub All : List Case → Type 0
+All [] = Unit
+All (c ∷ cs) = Holds c × All cs
+
+-- the suffix of P5 and P6: stage
+abbrev stage : List ℕ
+stage = 5 ∷ 115 ∷ 116 ∷ 97 ∷ 103 ∷ 101 ∷ 0 ∷ []
+
+unfoldable pub cases : List Case
+cases =
+    -- P1: flags 249, S honoured
+    flags 249 1 0 1
+    -- P2: flags 1, neither honoured
+    ∷ flags 1 0 0 2
+    -- P3: flags 4, neither honoured
+    ∷ flags 4 0 0 0
+    -- P4: flags 5, whatever may be honoured
+    ∷ flags 5 0 0 (refusal 10)
+    ∷ flags 5 1 0 (refusal 10)
+    ∷ flags 5 0 1 (refusal 10)
+    ∷ flags 5 1 1 (refusal 10)
+    -- P5: a partial name completed to one of 13 octets, behind one of flags
+    ∷ option (0 ∷ 5 ∷ 112 ∷ 105 ∷ 112 ∷ 101 ∷ 55 ∷ []) stage (0 ∷ 5 ∷ 112 ∷ 105 ∷ 112 ∷ 101 ∷ 55 ∷ 5 ∷ 115 ∷ 116 ∷ 97 ∷ 103 ∷ 101 ∷ 0 ∷ []) 14
+    -- P6: a label of 63 octets passes, one of 64 is refused
+    ∷ option (0 ∷ 63 ∷ replicate 63 97 ++ (0 ∷ [])) stage (0 ∷ 63 ∷ replicate 63 97 ++ (0 ∷ [])) 66
+    ∷ option (0 ∷ 64 ∷ replicate 64 97 ++ (0 ∷ [])) stage [] (refusal 11)
+    ∷ []

@@ -1,0 +1,2 @@
+-- The proof cases.
+pub mod Cases

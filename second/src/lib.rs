@@ -1,0 +1,24 @@
+//! A second program for the rules of document 01, in plain Rust.
+//!
+//! It exists to be compared with the product: same input, same answer, same
+//! refusal number, same octets. It also serves as the yardstick of the
+//! benchmarks. One module holds one section's rules:
+//!
+//! - [`name_option`]: the DHCPv6 name option and the server's answer to it;
+//! - [`server_list`]: the DNS server list fed by router options (RDNSS);
+//! - [`lease_query`]: the lease table and the DHCPv4 lease query;
+//! - [`zone`]: the zone and the four update requests;
+//! - [`job`]: add and remove jobs, one request a step.
+//!
+//! Malformed input must be representable, so records carry raw numbers where
+//! a Rust enum would rule the fault out. A refusal is `Err(number)`, and it
+//! leaves everything lent as it was.
+
+pub mod job;
+pub mod lease_query;
+pub mod name_option;
+pub mod server_list;
+pub mod zone;
+
+/// The last moment the clock can show.
+pub const LATEST_MOMENT: u64 = (1 << 48) - 1;

@@ -1,0 +1,387 @@
+//! Compares the product's name option calls with the second program.
+
+mod common;
+mod product;
+
+use common::names;
+use common::random::{fresh_seed, Random, FIXED_SEED};
+use product::word;
+use second::name_option::{answer, flag_decision, shape, Shape};
+
+/// Options compared by one run, at the least.
+const CASES: usize = 1_000_000;
+/// Cases of each refusal and each kind of answer, at the least.
+const EACH: usize = 1_000;
+/// Octets around every lent part that nobody may touch.
+const GUARD: usize = 16;
+/// Reply buffers at and around the limit.
+const BUFFERS: [usize; 5] = [0, 255, 256, 257, 300];
+
+const KINDS: [&str; 12] = [
+    "refusal 10",
+    "refusal 11, suffix",
+    "refusal 11, name",
+    "refusal 12",
+    "refusal 13",
+    "refusal 14",
+    "whole name",
+    "completed name",
+    "flags 0",
+    "flags 1",
+    "flags 2",
+    "flags 4",
+];
+
+/// How often each kind came up.
+#[derive(Default)]
+struct Tally {
+    counts: [usize; KINDS.len()],
+    cases: usize,
+}
+
+impl Tally {
+    fn count(&mut self, case: &Case, expected: Result<usize, u8>, flags: u8) {
+        self.cases += 1;
+        let kind = match expected {
+            Err(10) => 0,
+            Err(11) if shape(&case.suffix) != Shape::Full => 1,
+            Err(11) => 2,
+            Err(refusal) => usize::from(refusal) - 9,
+            Ok(_) => {
+                self.counts[[8, 9, 10, 0, 11][usize::from(flags)]] += 1;
+                if shape(&case.value[1..]) == Shape::Full {
+                    6
+                } else {
+                    7
+                }
+            }
+        };
+        self.counts[kind] += 1;
+    }
+
+    /// Prints the table and fails where a kind was too rare.
+    fn report(&self, seed: u64) {
+        println!("seed {seed}: {} name options", self.cases);
+        for (kind, count) in KINDS.iter().zip(self.counts) {
+            println!("  {kind:<20}{count:>9}");
+        }
+        assert!(self.cases >= CASES, "too few cases");
+        let rare = self.counts.iter().position(|&count| count < EACH);
+        assert_eq!(rare.map(|kind| KINDS[kind]), None, "a kind is too rare");
+    }
+}
+
+/// One call's arguments.
+#[derive(Clone, Debug)]
+struct Case {
+    value: Vec<u8>,
+    suffix: Vec<u8>,
+    honour_s: u8,
+    honour_n: u8,
+    reply_len: usize,
+}
+
+/// A run from one seed: what it drew, what it counted and the memory it
+/// lends, once for each program.
+struct Run {
+    seed: u64,
+    random: Random,
+    tally: Tally,
+    ours: Vec<u8>,
+    theirs: Vec<u8>,
+}
+
+/// The three lent parts of a memory, each between guards.
+fn lend<'a>(memory: &'a mut [u8], case: &Case) -> [&'a mut [u8]; 3] {
+    let (value, rest) = memory[GUARD..].split_at_mut(case.value.len());
+    let (suffix, rest) = rest[GUARD..].split_at_mut(case.suffix.len());
+    [value, suffix, &mut rest[GUARD..][..case.reply_len]]
+}
+
+impl Run {
+    fn new(seed: u64) -> Run {
+        println!("seed {seed} (JESPURLA_SEED={seed} repeats it as the fresh one)");
+        Run {
+            seed,
+            random: Random::new(seed),
+            tally: Tally::default(),
+            ours: Vec::new(),
+            theirs: Vec::new(),
+        }
+    }
+
+    /// Lays out both memories alike: random octets, then value and suffix.
+    fn lay_out(&mut self, case: &Case) {
+        let lent = case.value.len() + case.suffix.len() + case.reply_len;
+        self.ours.resize(lent + 4 * GUARD, 0);
+        self.random.fill(&mut self.ours);
+        let [value, suffix, _] = lend(&mut self.ours, case);
+        value.copy_from_slice(&case.value);
+        suffix.copy_from_slice(&case.suffix);
+        self.theirs.clone_from(&self.ours);
+    }
+
+    /// Runs both programs on one case and compares the whole memories.
+    fn compare(&mut self, case: &Case) {
+        self.lay_out(case);
+        let (s, n) = (case.honour_s, case.honour_n);
+        let [value, suffix, reply] = lend(&mut self.ours, case);
+        let expected = answer(value, suffix, s != 0, n != 0, reply);
+        let flags = if expected.is_ok() { reply[0] } else { 0 };
+        let [value, suffix, reply] = lend(&mut self.theirs, case);
+        let got = product::name_option_answer(value, suffix, s, n, reply);
+        let same = got == word(expected.map(|octets| octets as u64));
+        if !same || self.ours != self.theirs {
+            println!("second {expected:?}, product {got:#x}, {case:02x?}");
+            panic!("the programs differ, seed {}", self.seed);
+        }
+        self.tally.count(case, expected, flags);
+    }
+
+    /// 0, or any of the octets that mean yes.
+    fn honour(&mut self) -> u8 {
+        self.random.pick(&[0, 0, 0, 1, 1, 2, 128, 255])
+    }
+
+    /// Flags that are mostly sound, with any upper bits.
+    fn flags(&mut self) -> u8 {
+        if self.random.one_in(8) {
+            return self.random.octet();
+        }
+        let low = self.random.pick(&[0, 1, 1, 4]);
+        self.random.octet() & 0xf8 | low
+    }
+
+    /// A sound name mostly, else a field with a fault or without a plan.
+    fn name(&mut self) -> Vec<u8> {
+        match self.random.below(8) {
+            0 => names::some_faulty(&mut self.random),
+            1 => names::some_octets(&mut self.random),
+            2..=4 => names::some_full(&mut self.random),
+            _ => names::some_partial(&mut self.random),
+        }
+    }
+
+    /// A full name mostly, else anything.
+    fn suffix(&mut self) -> Vec<u8> {
+        if self.random.one_in(8) {
+            return self.name();
+        }
+        names::some_full(&mut self.random)
+    }
+
+    /// A case whose parts are drawn apart, so that faults meet.
+    fn mixed_case(&mut self) -> Case {
+        let mut value = Vec::with_capacity(320);
+        if !self.random.one_in(64) {
+            value.push(self.flags());
+            if !self.random.one_in(32) {
+                value.extend(self.name());
+            }
+        }
+        let short = self.random.one_in(24);
+        Case {
+            value,
+            suffix: self.suffix(),
+            honour_s: self.honour(),
+            honour_n: self.honour(),
+            reply_len: if short {
+                self.random.below(256)
+            } else {
+                256 + self.random.below(45)
+            },
+        }
+    }
+
+    /// A case that meets no refusal, but for a completed name too long.
+    fn sound_case(&mut self) -> Case {
+        let mut value = vec![self.flags() & 0xf9];
+        value.extend(if self.random.one_in(2) {
+            names::some_full(&mut self.random)
+        } else {
+            names::some_partial(&mut self.random)
+        });
+        Case {
+            value,
+            suffix: names::some_full(&mut self.random),
+            honour_s: self.honour(),
+            honour_n: self.honour(),
+            reply_len: 256,
+        }
+    }
+
+    /// Every octet of a sound value and suffix changed, one at a time.
+    fn damage(&mut self) {
+        let mut case = self.sound_case();
+        for at in 0..case.value.len() {
+            for octet in self.damaged(case.value[at]) {
+                case.value[at] = octet;
+                self.compare(&case);
+            }
+        }
+        for at in 0..case.suffix.len() {
+            for octet in self.damaged(case.suffix[at]) {
+                case.suffix[at] = octet;
+                self.compare(&case);
+            }
+        }
+    }
+
+    /// What an octet is changed to; at last to itself, which mends it.
+    fn damaged(&mut self, octet: u8) -> [u8; 12] {
+        let (up, down) = (octet.wrapping_add(1), octet.wrapping_sub(1));
+        let any = self.random.octet();
+        [0, 1, 2, 63, 64, 128, 192, 255, up, down, any, octet]
+    }
+
+    /// Option names at every limit.
+    fn names_at_limits(&mut self) -> Vec<Vec<u8>> {
+        let random = &mut self.random;
+        let mut made = vec![vec![], vec![0], vec![0, 0], vec![1], vec![1, 0], vec![2, 7]];
+        for octets in [3, 4, 65, 66, 67, 129, 253, 254, 255, 256, 257] {
+            made.push(names::full(random, octets));
+            made.push(names::partial(random, octets - 1));
+        }
+        made.push(names::partial(random, 257));
+        // One label of 63 or more, with and without the closing 0.
+        for label in [62, 63, 64, 65, 127, 128, 191, 192, 193, 253, 254, 255] {
+            let mut name = vec![label as u8];
+            name.resize(1 + label, b'l');
+            made.push(name.clone());
+            name.push(0);
+            made.push(name.clone());
+            name.push(0);
+            made.push(name);
+        }
+        made
+    }
+
+    /// Suffixes at every limit, full ones and others.
+    fn suffixes_at_limits(&mut self) -> Vec<Vec<u8>> {
+        let random = &mut self.random;
+        let mut made = vec![vec![], vec![0], vec![1], vec![64, 0], vec![1, 7, 0, 0]];
+        for octets in [3, 7, 65, 66, 127, 254, 255, 256] {
+            made.push(names::full(random, octets));
+        }
+        for octets in [2, 64, 254, 255] {
+            made.push(names::partial(random, octets));
+        }
+        made
+    }
+
+    /// Every name, suffix and buffer at its limit with each of the others.
+    fn limits(&mut self) {
+        let suffixes = self.suffixes_at_limits();
+        for name in self.names_at_limits() {
+            for suffix in &suffixes {
+                for (turn, reply_len) in (0..32).flat_map(|turn| BUFFERS.map(|len| (turn, len))) {
+                    let yes = self.random.pick(&[1, 2, 128, 255]);
+                    let flags = self.random.octet() & 0xf8 | turn & 7;
+                    self.compare(&Case {
+                        value: [&[flags], &name[..]].concat(),
+                        suffix: suffix.clone(),
+                        honour_s: yes * (turn >> 3 & 1),
+                        honour_n: yes * (turn >> 4),
+                        reply_len,
+                    });
+                }
+            }
+        }
+    }
+
+    /// Empty values against every suffix and buffer.
+    fn empty_values(&mut self) {
+        for suffix in self.suffixes_at_limits() {
+            for (turn, reply_len) in (0..4).flat_map(|turn| BUFFERS.map(|len| (turn, len))) {
+                self.compare(&Case {
+                    value: vec![],
+                    suffix: suffix.clone(),
+                    honour_s: turn & 1,
+                    honour_n: turn >> 1,
+                    reply_len,
+                });
+            }
+        }
+    }
+
+    /// Completed names of 254, 255 and 256 octets, split at every place.
+    fn completed(&mut self) {
+        for whole in [254, 255, 256] {
+            for head in 2..=whole - 3 {
+                for flags in [0, 1, 4] {
+                    let name = names::partial(&mut self.random, head);
+                    let case = Case {
+                        value: [&[flags], &name[..]].concat(),
+                        suffix: names::full(&mut self.random, whole - head),
+                        honour_s: self.honour(),
+                        honour_n: self.honour(),
+                        reply_len: 256,
+                    };
+                    self.compare(&case);
+                }
+            }
+        }
+    }
+
+    fn whole(mut self) {
+        self.limits();
+        self.empty_values();
+        self.completed();
+        for _ in 0..200 {
+            self.damage();
+        }
+        while self.tally.cases < CASES {
+            let case = self.mixed_case();
+            self.compare(&case);
+        }
+        self.tally.report(self.seed);
+    }
+}
+
+#[test]
+fn every_flag_decision_is_the_same() {
+    let honours = [0, 1, 2, 127, 128, 255];
+    for flags in 0..=255 {
+        for (s, n) in honours.iter().flat_map(|&s| honours.map(|n| (s, n))) {
+            let expected = word(flag_decision(flags, s != 0, n != 0));
+            let got = product::flag_decision(flags, s, n);
+            assert_eq!(got, expected, "flags {flags}, honours {s} {n}");
+        }
+    }
+}
+
+#[test]
+fn answers_from_the_fixed_seed_are_the_same() {
+    Run::new(FIXED_SEED).whole();
+}
+
+#[test]
+fn answers_from_a_fresh_seed_are_the_same() {
+    Run::new(fresh_seed()).whole();
+}
+
+/// Fields far over any limit end in a refusal too, however many labels they
+/// have.
+#[test]
+fn huge_fields_are_answered_the_same() {
+    let mut run = Run::new(FIXED_SEED);
+    let labels = |octets: usize| [1, b'a'].repeat(octets / 2);
+    for octets in [256, 65_536, 65_792, 4_000_000] {
+        for closing in [&[][..], &[0]] {
+            let huge = [&labels(octets)[..], closing].concat();
+            let mut case = Case {
+                value: [&[0], &huge[..]].concat(),
+                suffix: b"\x05stage\x00".to_vec(),
+                honour_s: 1,
+                honour_n: 0,
+                reply_len: 256,
+            };
+            run.compare(&case);
+            case.value.truncate(7);
+            case.reply_len = 70_000;
+            run.compare(&case);
+            case.suffix = huge;
+            run.compare(&case);
+        }
+    }
+}
