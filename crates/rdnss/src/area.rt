@@ -1,0 +1,1 @@
+// The option area of a router, walked.
