@@ -5,7 +5,7 @@ use mathlib.Core.List.{List, [], _∷_, _++_, map, foldl}
 use Prim.Native.Nat.{ℕ, zero, suc, _+_, _-_, _≤_, _<_}
 use native.Mathlib.Omega.{arith}
 use lib.Dec.{ltb}
-use lib.ListN.{length, take, drop, getD}
+use lib.ListN.{length, take, drop, getD, length-map}
 use borrow.Author.Tests.{lt-ltb, le-ltb, ltb-true, ltb-false}
 use Rattle.rdnss.specs.Entries.{Kind, Marked, places, oneOf, isAbout, isHeld, removed, renewed, evicted, roomed, inserted, unmarked, marking, named, namedAll}
 use Rattle.rdnss.specs.Places.{place, insertAt, removeAt, replaceAt, evictPlace, marked}
@@ -34,6 +34,11 @@ module _ {K X E : Type 0} (kind : Kind K X E) where
       go true h i = absurd (omega arith)
       go false h i = ap (λ (x : List E). e ∷ x) (i (omega arith))
 
+  pub removed-le : (k : K) (l : List E) → length (removed kind k l) ≤ length l
+  unfolding removed
+  removed-le k [] = omega arith
+  removed-le k (e ∷ l) = cond-case (λ (m : List E). length m ≤ suc (length l)) (isAbout kind k e) (λ _. omega arith) (λ _. omega (arith, removed-le k l))
+
   pub renewed-at : (k : K) (x : X) (d : E) (l : List E) → place (isAbout kind k) l < length l
       → renewed kind k x l ≡ replaceAt (place (isAbout kind k) l) (kind .renew x (getD l (place (isAbout kind k) l) d)) l
   unfolding renewed place
@@ -46,6 +51,11 @@ module _ {K X E : Type 0} (kind : Kind K X E) where
           ≡ replaceAt (cond b 0 (suc (place (isAbout kind k) l))) (kind .renew x (getD (e ∷ l) (cond b 0 (suc (place (isAbout kind k) l))) d)) (e ∷ l)
       go true h i = refl
       go false h i = ap (λ (y : List E). e ∷ y) (i (omega arith))
+
+  pub renewed-length : (k : K) (x : X) (l : List E) → length (renewed kind k x l) ≡ length l
+  unfolding renewed
+  renewed-length k x [] = refl
+  renewed-length k x (e ∷ l) = cond-case (λ (m : List E). length m ≡ suc (length l)) (isAbout kind k e) (λ _. refl) (λ _. ap suc (renewed-length k x l))
 
   pub evicted-at : (l : List E) → evicted kind l ≡ removeAt (evictPlace kind l) l
   unfolding evicted evictPlace
@@ -97,6 +107,11 @@ module _ {E : Type 0} where
   marked-items (suc n) [] = refl
   marked-items (suc n) (e ∷ l) = ap (λ (x : List E). e ∷ x) (marked-items n l)
 
+  pub marked-nil : (n : ℕ) → marked {E = E} n [] ≡ []
+  unfolding marked
+  marked-nil zero = refl
+  marked-nil (suc n) = refl
+
   pub marked-none : (l : List E) → marked 0 l ≡ map unmarked l
   unfolding marked
   marked-none l = refl
@@ -108,6 +123,11 @@ module _ {E : Type 0} where
   one-marked p zero (e ∷ l) = ap (λ (b : Bool). p e || b) (one-marked p zero l)
   one-marked p (suc n) [] = refl
   one-marked p (suc n) (e ∷ l) = ap (λ (b : Bool). p e || b) (one-marked p n l)
+
+  pub inserted-length : (m : Marked E) (l : List (Marked E)) → length (inserted m l) ≡ suc (length l)
+  unfolding inserted
+  inserted-length m [] = refl
+  inserted-length m (d ∷ l) = cond-case (λ (r : List (Marked E)). length r ≡ suc (suc (length l))) (d .own) (λ _. ap suc (inserted-length m l)) (λ _. refl)
 
   pub inserted-marked : (e : E) (n : ℕ) (l : List E) → n ≤ length l → inserted (record { item = e; own = true }) (marked n l) ≡ marked (suc n) (insertAt n e l)
   unfolding marked inserted
@@ -146,6 +166,18 @@ module _ {K X E : Type 0} (kind : Kind K X E) where
       go true h = refl
       go false h = ap (λ (y : List (Marked E)). unmarked e ∷ y) h
 
+  pub named-withdraws : (x : X) (k : K) (l : List (Marked E)) → named kind true x l k ≡ removed (marking kind) k l
+  unfolding named
+  named-withdraws x k l = refl
+
+  pub named-present : (x : X) (k : K) (l : List (Marked E)) → isHeld (marking kind) k l ≡ true → named kind false x l k ≡ renewed (marking kind) k x l
+  unfolding named
+  named-present x k l h = rw h
+
+  pub named-absent : (x : X) (k : K) (l : List (Marked E)) → isHeld (marking kind) k l ≡ false → named kind false x l k ≡ inserted (marking kind .entry k x) (roomed (marking kind) l)
+  unfolding named
+  named-absent x k l h = rw h
+
   evicted-unmarked : (l : List E) → evicted (marking kind) (map unmarked l) ≡ map unmarked (evicted kind l)
   unfolding evicted
   evicted-unmarked [] = refl
@@ -155,11 +187,68 @@ module _ {K X E : Type 0} (kind : Kind K X E) where
     where
       one : (p : E → Bool) (l : List E) → oneOf (λ m. p (m .item)) (map unmarked l) ≡ oneOf p l
       one p l = ap (oneOf (λ m. p (m .item))) (sym (marked-none l)) ∙ one-marked p 0 l
+
       go : (b : Bool) → evicted (marking kind) (map unmarked l) ≡ map unmarked (evicted kind l)
           → cond b (unmarked e ∷ evicted (marking kind) (map unmarked l)) (map unmarked l) ≡ map unmarked (cond b (e ∷ evicted kind l) l)
       go true h = ap (λ (y : List (Marked E)). unmarked e ∷ y) h
       go false h = refl
 
-  -- the entry that goes is one that this option inserted, or it is not
+  -- the entry that goes is one that this option inserted
   pub evicted-own : (n : ℕ) (l : List E) → evictPlace kind l < n → evicted (marking kind) (marked n l) ≡ marked (n - 1) (removeAt (evictPlace kind l) l)
-  evicted-other : (n : ℕ) (l : List E) → n ≤ evictPlace kind l → evicted (marking kind) (marked n l) ≡ marked n (removeAt (evictPlace kind l) l)
+  unfolding marked evicted evictPlace
+  evicted-own zero l h = absurd (omega arith)
+  evicted-own (suc n) [] h = sym (marked-nil (suc n - 1))
+  evicted-own (suc n) (e ∷ l) h =
+      ap (λ (b : Bool). cond b (record { item = e; own = true } ∷ evicted (marking kind) (marked n l)) (marked n l)) (one-marked (λ d. kind .noLater d e) n l)
+      ∙ go (oneOf (λ d. kind .noLater d e) l) h (evicted-own n l)
+    where
+      go : (b : Bool) → cond b (suc (evictPlace kind l)) 0 < suc n → (evictPlace kind l < n → evicted (marking kind) (marked n l) ≡ marked (n - 1) (removeAt (evictPlace kind l) l))
+          → cond b (record { item = e; own = true } ∷ evicted (marking kind) (marked n l)) (marked n l) ≡ marked (suc n - 1) (removeAt (cond b (suc (evictPlace kind l)) 0) (e ∷ l))
+      go true h i =
+          let q : suc n - 1 ≡ suc (n - 1) = omega arith in
+          ap (λ (y : List (Marked E)). record { item = e; own = true } ∷ y) (i (omega arith)) ∙ ap (λ (m : ℕ). marked m (e ∷ removeAt (evictPlace kind l) l)) (sym q)
+      go false h i =
+          let q : suc n - 1 ≡ n = omega arith in
+          ap (λ (m : ℕ). marked m l) (sym q)
+
+  -- or it is not
+  pub evicted-other : (n : ℕ) (l : List E) → n ≤ evictPlace kind l → evicted (marking kind) (marked n l) ≡ marked n (removeAt (evictPlace kind l) l)
+  unfolding marked evicted evictPlace
+  evicted-other zero l h = evicted-unmarked l ∙ ap (map unmarked) (evicted-at kind l)
+  evicted-other (suc n) [] h = absurd (omega arith)
+  evicted-other (suc n) (e ∷ l) h =
+      ap (λ (b : Bool). cond b (record { item = e; own = true } ∷ evicted (marking kind) (marked n l)) (marked n l)) (one-marked (λ d. kind .noLater d e) n l)
+      ∙ go (oneOf (λ d. kind .noLater d e) l) h (evicted-other n l)
+    where
+      go : (b : Bool) → suc n ≤ cond b (suc (evictPlace kind l)) 0 → (n ≤ evictPlace kind l → evicted (marking kind) (marked n l) ≡ marked n (removeAt (evictPlace kind l) l))
+          → cond b (record { item = e; own = true } ∷ evicted (marking kind) (marked n l)) (marked n l) ≡ marked (suc n) (removeAt (cond b (suc (evictPlace kind l)) 0) (e ∷ l))
+      go true h i = ap (λ (y : List (Marked E)). record { item = e; own = true } ∷ y) (i (omega arith))
+      go false h i = absurd (omega arith)
+
+  -- an option that withdraws goes over the bare list
+  pub withdrawn-all : (x : X) (keys : List K) (l : List E) → namedAll kind true x keys l ≡ foldl (λ h k. removed kind k h) l keys
+  unfolding namedAll
+  withdrawn-all x keys l = ap (map (λ m. m .item)) (go keys l) ∙ ap (map (λ m. m .item)) (sym (marked-none (foldl (λ h k. removed kind k h) l keys))) ∙ marked-items 0 (foldl (λ h k. removed kind k h) l keys)
+    where
+      go : (keys : List K) (l : List E) → foldl (named kind true x) (map unmarked l) keys ≡ map unmarked (foldl (λ h k. removed kind k h) l keys)
+      go [] l = refl
+      go (k ∷ keys) l = ap (λ (y : List (Marked E)). foldl (named kind true x) y keys) (named-withdraws x k (map unmarked l) ∙ removed-unmarked k l) ∙ go keys (removed kind k l)
+
+  -- an option leaves at most eight entries
+  pub named-fits : (w : Bool) (x : X) (l : List (Marked E)) (k : K) → length l ≤ places → length (named kind w x l k) ≤ places
+  unfolding named
+  named-fits w x l k h =
+      cond-case (λ (m : List (Marked E)). length m ≤ places) w
+      (λ _. omega (arith, removed-le (marking kind) k l))
+      (λ _.
+      cond-case (λ (m : List (Marked E)). length m ≤ places) (isHeld (marking kind) k l)
+      (λ _. omega (arith, renewed-length (marking kind) k x l))
+      (λ _. omega (arith, inserted-length (marking kind .entry k x) (roomed (marking kind) l), roomed-length (marking kind) l h)))
+
+  pub all-fits : (w : Bool) (x : X) (keys : List K) (l : List E) → length l ≤ places → length (namedAll kind w x keys l) ≤ places
+  unfolding namedAll
+  all-fits w x keys l h = omega (arith, length-map (foldl (named kind w x) (map unmarked l) keys) (λ m. m .item), go keys (map unmarked l) (omega (arith, length-map l unmarked)))
+    where
+      go : (keys : List K) (l : List (Marked E)) → length l ≤ places → length (foldl (named kind w x) l keys) ≤ places
+      go [] l h = h
+      go (k ∷ keys) l h = go keys (named kind w x l k) (named-fits w x l k h)

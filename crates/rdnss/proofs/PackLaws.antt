@@ -63,6 +63,6 @@ module _ {l : ServerList} (p : InPlaces l) where
       → _≡_ {A = ServerList} (record { entries = set (l .entries) k e; count = l .count; clock = l .clock }) (packed (l .clock) (replaceAt k e (held l)))
   set-packed k e h =
       packs _ (l .clock) (replaceAt k e (held l))
-          (ap (λ (x : List Server). set x k e) held-fill ∙ fill-set blank (held l) k e (omega (arith, held-length)))
-          (omega (arith, held-length, replaced-length k e (held l) (omega (arith, held-length))))
-          refl
+      (ap (λ (x : List Server). set x k e) held-fill ∙ fill-set blank (held l) k e (omega (arith, held-length)))
+      (omega (arith, held-length, replaced-length k e (held l) (omega (arith, held-length))))
+      refl

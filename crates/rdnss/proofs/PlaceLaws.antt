@@ -74,7 +74,7 @@ module _ {E : Type 0} (z : E) where
   pub up-end : (l m : List E) (k n : ℕ) → length l ≡ n + 1 → length l ≤ 8 → length m ≡ 8 → k ≤ n → removeAt n m ≡ removeAt k (fill l) → set m n z ≡ fill (removeAt k l)
   up-end l m k n h b w o e =
       let c : removeAt k (fill l) ≡ removeAt k l ++ replicate (8 - length l) z =
-              rw (take-append-le k l (replicate (8 - length l) z) (omega arith), drop-append-le (suc k) l (replicate (8 - length l) z) (omega arith)) (sym (append-assoc (take k l) (drop (suc k) l) (replicate (8 - length l) z))) in
+      rw (take-append-le k l (replicate (8 - length l) z) (omega arith), drop-append-le (suc k) l (replicate (8 - length l) z) (omega arith)) (sym (append-assoc (take k l) (drop (suc k) l) (replicate (8 - length l) z))) in
       let r : length (removeAt k l) ≡ n = omega (arith, removed-length k l (omega arith)) in
       let t : length (take n m) ≡ n = length-take-le n m (omega arith) in
       let f = same-front (take n m) (drop (suc n) m) (removeAt k l) (replicate (8 - length l) z) n t r (e ∙ c) in
@@ -86,7 +86,7 @@ module _ {E : Type 0} (z : E) where
   pub back-end : (l m : List E) (k n : ℕ) (carried x : E) → length l ≡ n → n < 8 → length m ≡ 8 → k ≤ n → insertAt n carried m ≡ insertAt k x (fill l) → set m n carried ≡ fill (insertAt k x l)
   back-end l m k n carried x h b w o e =
       let c : insertAt k x (fill l) ≡ insertAt k x l ++ replicate (8 - length l) z =
-              rw (take-append-le k l (replicate (8 - length l) z) (omega arith), drop-append-le k l (replicate (8 - length l) z) (omega arith)) (sym (append-assoc (take k l) (x ∷ drop k l) (replicate (8 - length l) z))) in
+      rw (take-append-le k l (replicate (8 - length l) z) (omega arith), drop-append-le k l (replicate (8 - length l) z) (omega arith)) (sym (append-assoc (take k l) (x ∷ drop k l) (replicate (8 - length l) z))) in
       let r : length (insertAt k x l) ≡ suc n = omega (arith, inserted-length k x l (omega arith)) in
       let t : length (take n m ++ (carried ∷ [])) ≡ suc n = omega (arith, length-append (take n m) (carried ∷ []), length-take-le n m (omega arith)) in
       let e′ : (take n m ++ (carried ∷ [])) ++ drop n m ≡ insertAt k x l ++ replicate (8 - length l) z = append-snoc (take n m) carried (drop n m) ∙ e ∙ c in

@@ -2,10 +2,11 @@
 use mathlib.Core.Bool.{Bool, true, cond}
 use mathlib.Core.List.{List, [], _∷_, _++_, map}
 use mathlib.Core.Path.{_≡_}
-use Prim.Native.Nat.{ℕ, zero, suc, _≤_}
+use Prim.Native.Nat.{ℕ, zero, suc, _*_, _≤_}
 use lib.ListN.{length, take, drop}
 use Rattle.clock.specs.declared.Moment.{Moment}
 use Rattle.rdnss.specs.Entries.{Kind, Marked, unmarked, oneOf}
+use Rattle.rdnss.specs.Area.{lengthOf}
 use Rattle.rdnss.specs.ServerList.{held, packed}
 use Rattle.rdnss.specs.declared.Server.{Server}
 use Rattle.rdnss.specs.declared.ServerList.{ServerList}
@@ -55,3 +56,7 @@ pub record Holds (clock : Moment) (l : List (Marked Server)) (p : Placed) : Type
   pub ready : Ready p
   pub clocked : p .list .clock ≡ clock
   pub holds : marks p ≡ l
+
+-- An option has as many octets as its Length says.
+pub record OptionFits (option : List ℕ) : Type 0 where
+  pub whole : 8 * lengthOf option ≤ length option

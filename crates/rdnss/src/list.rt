@@ -131,7 +131,10 @@ pub(crate) fn renew_at(l: ServerList, k: usize, x: Moment) -> ServerList
     let d = entry_at(l, k);
     let a = d.address;
     let mut m = l;
-    m.entries[k] = Server { address: a, expiry: x };
+    m.entries[k] = Server {
+        address: a,
+        expiry: x,
+    };
     m
 }
 

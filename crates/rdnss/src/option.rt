@@ -4,15 +4,16 @@ use crate::Server;
 use crate::ServerList;
 use crate::list;
 use clock::Moment;
+use clock::Span;
 ghost use mathlib.Core.Path.{_≡_};
 ghost use mathlib.Core.Bool.{false};
 ghost use mathlib.Core.List.{foldl};
-ghost use Prim.Native.Nat.{_+_, _*_, _≤_, _<_};
+ghost use Prim.Native.Nat.{_+_, _-_, _*_, _/_, _≤_, _<_, min};
 ghost use lib.ListN.{length, take, drop, getD};
 ghost use Rattle.rdnss.specs.Entries.{marking, roomed, inserted, named, namedAll, removed};
-ghost use Rattle.rdnss.specs.Area.{addressesFrom};
-ghost use Rattle.rdnss.specs.ServerList.{servers, held, packed};
-ghost use Rattle.rdnss.specs.Places.{InPlaces, Ready, Holds, marks};
+ghost use Rattle.rdnss.specs.Area.{acts, addressesFrom};
+ghost use Rattle.rdnss.specs.ServerList.{servers, held, packed, optionApplied};
+ghost use Rattle.rdnss.specs.Places.{InPlaces, Ready, Holds, marks, OptionFits};
 
 // A list while an option is applied, and how many of its first entries this option inserted.
 pub(crate) struct Placed {
@@ -48,7 +49,14 @@ fn insert(p: Placed, a: Address6, x: Moment) -> Placed
 {
     let q = make_room(p);
     let at = q.at;
-    let m = list::insert_at(q.list, at, Server { address: a, expiry: x });
+    let m = list::insert_at(
+        q.list,
+        at,
+        Server {
+            address: a,
+            expiry: x,
+        },
+    );
     Placed {
         list: m,
         at: at + 1,
@@ -123,4 +131,44 @@ fn name_all(l: ServerList, v: &[u8], n: usize, x: Moment) -> ServerList
         j += 1;
     }
     p.list
+}
+
+// Whether an option acts: Type 25 with odd Length of at least 3.
+fn is_acting(option: &[u8]) -> bool
+    ensures { λ r. ⌜ r ≡ acts (now (option .entry)) ⌝ }
+{
+    if octets::number::octet_at(option, 0) != 25 {
+        return false;
+    }
+    let length = octets::number::octet_at(option, 1);
+    if length < 3 {
+        return false;
+    }
+    length % 2 == 1
+}
+
+// How many addresses of an option of this Length count: the first three.
+fn address_count(length: usize) -> usize
+    requires { ⌜ 3 ≤ length ⌝ }
+    ensures { λ r. ⌜ r ≡ min ((length - 1) / 2) 3 ⌝ }
+{
+    let n = (length - 1) / 2;
+    if n < 3 { n } else { 3 }
+}
+
+// One option, as the part of the area where it starts.
+pub(crate) fn apply(l: ServerList, option: &[u8], clock: Moment) -> ServerList
+    requires { ⌜ InPlaces l × OptionFits (now option) ⌝ }
+    ensures { λ r. ⌜ r ≡ packed (l .clock) (optionApplied clock (held l) (now (option .entry))) ⌝ }
+{
+    if !is_acting(option) {
+        return l;
+    }
+    let n = address_count(option[1] as usize);
+    let lifetime = Span(octets::number::u32_at(option, 4));
+    if lifetime.0 == 0 {
+        return withdraw_all(l, option, n);
+    }
+    let x = clock::expiry_after(clock, lifetime);
+    name_all(l, option, n, x)
 }

@@ -62,9 +62,9 @@ returns c =
     let e : l .i ≡ n = omega arith in
     let q : insertAt n (l .carried) (l .m .entries) ≡ insertAt (a .args .k) (a .args .e) (fill blank (held (a .args .l))) = rw (← e) (h .4) ∙ ap (insertAt (a .args .k) (a .args .e)) (held-fill p) in
     packs _ (a .args .l .clock) (insertAt (a .args .k) (a .args .e) (held (a .args .l)))
-        (back-end blank (held (a .args .l)) (l .m .entries) (a .args .k) n (l .carried) (a .args .e) (held-length p) (omega arith) (h .0) (omega arith) q)
-        (omega (arith, held-length p, inserted-length (a .args .k) (a .args .e) (held (a .args .l)) (omega (arith, held-length p))))
-        (h .1)
+    (back-end blank (held (a .args .l)) (l .m .entries) (a .args .k) n (l .carried) (a .args .e) (held-length p) (omega arith) (h .0) (omega arith) q)
+    (omega (arith, held-length p, inserted-length (a .args .k) (a .args .e) (held (a .args .l)) (omega (arith, held-length p))))
+    (h .1)
 
 pub insert-at-spec : {M : Type 1} → statement M
 insert-at-spec =

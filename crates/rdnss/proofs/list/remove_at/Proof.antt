@@ -65,9 +65,9 @@ returns c =
     let e : l .i ≡ n = omega arith in
     let q : removeAt n (l .m .entries) ≡ removeAt (a .args .k) (fill blank (held (a .args .l))) = rw (← e) (h .4) ∙ ap (removeAt (a .args .k)) (held-fill p) in
     packs _ (a .args .l .clock) (removeAt (a .args .k) (held (a .args .l)))
-        (up-end blank (held (a .args .l)) (l .m .entries) (a .args .k) n (omega (arith, held-length p)) (omega (arith, held-length p)) (h .0) (omega arith) q)
-        (omega (arith, held-length p, removed-length (a .args .k) (held (a .args .l)) (omega (arith, held-length p))))
-        (h .1)
+    (up-end blank (held (a .args .l)) (l .m .entries) (a .args .k) n (omega (arith, held-length p)) (omega (arith, held-length p)) (h .0) (omega arith) q)
+    (omega (arith, held-length p, removed-length (a .args .k) (held (a .args .l)) (omega (arith, held-length p))))
+    (h .1)
 
 pub remove-at-spec : {M : Type 1} → statement M
 remove-at-spec =
