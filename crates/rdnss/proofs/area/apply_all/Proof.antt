@@ -1,0 +1,133 @@
+use Prim.Native.Nat.{ℕ, _*_, _≤_, _<_, _+_, _-_}
+use mathlib.Core.Path.{_≡_, sym, _∙_, refl, ap}
+use mathlib.Core.Bool.{true}
+use mathlib.Core.List.{List, foldl}
+use native.Mathlib.Omega.{arith}
+use borrow.Author.Needs.{needs}
+use lib.ListN.{length, take, drop, getD}
+use Rattle.rdnss.specs.Area.{isWhole, options}
+use Rattle.rdnss.specs.ServerList.{held, packed, optionApplied}
+use Rattle.rdnss.specs.Places.{InPlaces}
+use Rattle.rdnss.specs.declared.Server.{Server}
+use Rattle.rdnss.proofs.AreaLaws.{fits-at, whole-at, options-at, part-at, part-fits, options-out}
+use Rattle.rdnss.proofs.PackLaws.{of-clock, of-held, in-places, held-length}
+use Rattle.rdnss.proofs.CallLaws.{option-fits}
+use Rattle.rdnss.proofs.area.apply_all.Statement.{statement}
+use Rattle.rdnss.proofs.area.apply_all.Tie as tie
+
+abbrev Inv-loop : tie.InvT-loop
+Inv-loop area clock m₀ at₀ m at =
+    (at ≤ length area) × (isWhole 0 (drop at area) ≡ true) × InPlaces m × (m .clock ≡ m₀ .clock)
+    × (foldl (optionApplied clock) (held m₀) (options 0 area) ≡ foldl (optionApplied clock) (held m) (options 0 (drop at area)))
+
+abbrev μ-loop : tie.MeasureT-loop
+μ-loop area clock m₀ at₀ m at = length area - at
+
+loop-holds : tie.Need-loop-holds Inv-loop μ-loop
+loop-holds c = (omega arith, c .before .pre .1, c .before .pre .0, refl, refl)
+
+add-end : tie.Need-add-end Inv-loop μ-loop
+add-end c = search needs
+
+shared-slice-read-end : tie.Need-shared-slice-read-end Inv-loop μ-loop
+shared-slice-read-end c =
+    let v = c .before .before .before .before .args .area .now in
+    let l = c .before .before .loop in
+    let f = fits-at v (l .at) (getD v (l .at + 1) 0 * 8) refl (c .before .loop-test .taken) (l .inv .1) in
+    omega arith
+
+cast-end : tie.Need-cast-end Inv-loop μ-loop
+cast-end c = omega (arith, c .shared-slice-known2 .given (c .before .before .loop .at + 1))
+
+mul-end : tie.Need-mul-end Inv-loop μ-loop
+mul-end c = omega (arith, c .shared-slice-known2 .given (c .before .before .loop .at + 1))
+
+add-end-2 : tie.Need-add-end-2 Inv-loop μ-loop
+add-end-2 c =
+    let v = c .before .before .before .before .args .area .now in
+    let l = c .before .before .loop in
+    let f = fits-at v (l .at) (getD v (l .at + 1) 0 * 8) refl (c .before .loop-test .taken) (l .inv .1) in
+    omega arith
+
+sub-apply : tie.Need-sub-apply Inv-loop μ-loop
+sub-apply c =
+    let v = c .before .before .before .before .args .area .now in
+    let l = c .before .before .loop in
+    let f = fits-at v (l .at) (getD v (l .at + 1) 0 * 8) refl (c .before .loop-test .taken) (l .inv .1) in
+    omega arith
+
+part-apply-start : tie.Need-part-apply-start Inv-loop μ-loop
+part-apply-start c =
+    let v = c .before .before .before .before .args .area .now in
+    let l = c .before .before .loop in
+    let f = fits-at v (l .at) (getD v (l .at + 1) 0 * 8) refl (c .before .loop-test .taken) (l .inv .1) in
+    omega arith
+
+part-apply-end : tie.Need-part-apply-end Inv-loop μ-loop
+part-apply-end c =
+    let v = c .before .before .before .before .args .area .now in
+    let l = c .before .before .loop in
+    fits-at v (l .at) (getD v (l .at + 1) 0 * 8) refl (c .before .loop-test .taken) (l .inv .1) .1
+
+apply-requires : tie.Need-apply-requires Inv-loop μ-loop
+apply-requires c κs =
+    let v = c .before .before .before .before .before .args .area .now in
+    let l = c .before .before .before .loop in
+    let t = c .before .before .loop-test .taken in
+    let n = getD v (l .at + 1) 0 * 8 in
+    let f = fits-at v (l .at) n refl t (l .inv .1) in
+    (l .inv .2, part-fits v (l .at) n refl t (f .0) (f .1))
+
+loop-less : tie.Need-loop-less Inv-loop μ-loop
+loop-less c =
+    let v = c .before .before .before .before .before .before .args .area .now in
+    let l = c .before .before .before .before .loop in
+    let f = fits-at v (l .at) (getD v (l .at + 1) 0 * 8) refl (c .before .before .before .loop-test .taken) (l .inv .1) in
+    omega arith
+
+loop-again : tie.Need-loop-again Inv-loop μ-loop
+loop-again c =
+    let s = c .before .before .before .before .before .before .args in
+    let v = s .area .now in
+    let l = c .before .before .before .before .loop in
+    let t = c .before .before .before .loop-test .taken in
+    let n = getD v (l .at + 1) 0 * 8 in
+    let f = fits-at v (l .at) n refl t (l .inv .1) in
+    let part = take (l .at + n - l .at) (drop (l .at) v) in
+    let d = optionApplied (s .clock) (held (l .m)) part in
+    let e = c .apply .ensures in (
+      f .1,
+      sym (whole-at v (l .at) n refl t (f .0) (f .1)) ∙ l .inv .1,
+      in-places (l .m .clock) d e (option-fits (s .clock) (held (l .m)) part (omega (arith, held-length (l .inv .2), l .inv .2 .few))),
+      of-clock (l .m .clock) d e ∙ l .inv .3,
+      l .inv .4 ∙ ap (foldl (optionApplied (s .clock)) (held (l .m))) (options-at v (l .at) n refl t (f .0) (f .1))
+          ∙ ap (λ (r : List Server). foldl (optionApplied (s .clock)) r (options 0 (drop (l .at + n) v)))
+          (ap (optionApplied (s .clock) (held (l .m))) (sym (part-at v (l .at) n refl t (f .0) (f .1))) ∙ sym (of-held (l .m .clock) d e)),
+    )
+
+returns : tie.Need-returns Inv-loop μ-loop
+returns c =
+    let s = c .before .before .before .args in
+    let v = s .area .now in
+    let l = c .before .loop in
+    l .inv .2 .packs ∙ rw (l .inv .3, l .inv .4, options-out v (l .at) (omega arith))
+
+pub apply-all-spec : {M : Type 1} → statement M
+apply-all-spec =
+    tie.close
+    (tie.spec
+    Inv-loop
+    μ-loop
+    loop-holds
+    add-end
+    shared-slice-read-end
+    cast-end
+    mul-end
+    add-end-2
+    sub-apply
+    part-apply-start
+    part-apply-end
+    apply-requires
+    loop-less
+    loop-again
+    returns)

@@ -1,0 +1,86 @@
+use Prim.Native.Nat.{_≤_, _<_, _+_, _-_, suc}
+use mathlib.Core.Path.{_≡_, sym, _∙_, refl, ap}
+use native.Mathlib.Nat.{zero-add}
+use native.Mathlib.Omega.{arith}
+use borrow.Author.Needs.{needs}
+use borrow.Author.Tests.{not-true, not-false}
+use lib.ListN.{length, take, drop, getD, length-map}
+use lib.Seq.{length-take-le}
+use Rattle.rdnss.specs.ServerList.{servers, held, blank}
+use Rattle.rdnss.specs.Places.{evictPlace}
+use Rattle.rdnss.proofs.PlaceLaws.{evict-last, evict-keep, evict-take}
+use Rattle.rdnss.proofs.ServerLaws.{ordered}
+use Rattle.rdnss.proofs.list.evict_place.Statement.{statement}
+use Rattle.rdnss.proofs.list.evict_place.Tie as tie
+
+abbrev Inv-loop : tie.InvT-loop
+Inv-loop l i₀ best₀ i best = (length (held l) ≡ l .count) × (i < l .count) × (best < l .count) × (best ≡ i + evictPlace servers (drop i (held l)))
+
+abbrev μ-loop : tie.MeasureT-loop
+μ-loop l i₀ best₀ i best = i
+
+sub-i : tie.Need-sub-i Inv-loop μ-loop
+sub-i c = omega arith
+
+loop-holds : tie.Need-loop-holds Inv-loop μ-loop
+loop-holds c =
+    let a = c .before .args in
+    let g = simp length-map at (c .before .good .0 .1 .1 .0 .1 .0 .1) in
+    let e = length-take-le (a .l .count) (a .l .entries) (omega arith) in
+    (e, omega arith, omega arith, omega (arith, evict-last servers ordered (held (a .l)) blank (a .l .count - 1) (omega arith)))
+
+sub-i-2 : tie.Need-sub-i-2 Inv-loop μ-loop
+sub-i-2 c = omega arith
+
+entry-at-requires : tie.Need-entry-at-requires Inv-loop μ-loop
+entry-at-requires c κs = (omega arith, omega arith)
+
+entry-at-requires-2 : tie.Need-entry-at-requires-2 Inv-loop μ-loop
+entry-at-requires-2 c κs = (omega arith, omega arith)
+
+is-no-later-requires : tie.Need-is-no-later-requires Inv-loop μ-loop
+is-no-later-requires c κs = search needs
+
+loop-less : tie.Need-loop-less Inv-loop μ-loop
+loop-less c = omega arith
+
+loop-again : tie.Need-loop-again Inv-loop μ-loop
+loop-again c =
+    let a = c .before .before .before .before .before .before .before .args in
+    let l = c .before .before .before .before .before .loop in
+    let h = l .inv in
+    (h .0, omega arith, omega arith, evict-take servers ordered (held (a .l)) blank (l .i) (l .best) (omega arith) (omega arith) (h .3) (rw (← c .before .before .entry-at2 .ensures, ← c .before .before .before .entry-at .ensures) (sym (c .before .is-no-later .ensures) ∙ not-true _ (c .if1 .taken))))
+
+loop-less-2 : tie.Need-loop-less-2 Inv-loop μ-loop
+loop-less-2 c = omega arith
+
+loop-again-2 : tie.Need-loop-again-2 Inv-loop μ-loop
+loop-again-2 c =
+    let a = c .before .before .before .before .before .before .before .args in
+    let l = c .before .before .before .before .before .loop in
+    let h = l .inv in
+    (h .0, omega arith, omega arith, evict-keep servers ordered (held (a .l)) blank (l .i) (l .best) (omega arith) (omega arith) (h .3) (rw (← c .before .before .entry-at2 .ensures, ← c .before .before .before .entry-at .ensures) (sym (c .before .is-no-later .ensures) ∙ not-false _ (c .if1 .left))))
+
+returns : tie.Need-returns Inv-loop μ-loop
+returns c =
+    let l = c .before .loop in
+    let e : l .i ≡ 0 = omega arith in
+    l .inv .3 ∙ rw e (simp zero-add)
+
+pub evict-place-spec : {M : Type 1} → statement M
+evict-place-spec =
+    tie.close
+    (tie.spec
+    Inv-loop
+    μ-loop
+    sub-i
+    loop-holds
+    sub-i-2
+    entry-at-requires
+    entry-at-requires-2
+    is-no-later-requires
+    loop-less
+    loop-again
+    loop-less-2
+    loop-again-2
+    returns)

@@ -1,0 +1,97 @@
+use mathlib.Core.Path.{_≡_, sym, _∙_, ap}
+use native.Mathlib.Omega.{arith}
+use borrow.Author.Tests.{not-true, not-false}
+use Prim.Native.Nat.{ℕ}
+use mathlib.Core.List.{List, foldl}
+use mathlib.Core.Bool.{false}
+use lib.ListN.{drop, getD}
+use Rattle.clock.specs.Clock.{span, expiryAfter}
+use Rattle.clock.specs.declared.Moment.{Moment}
+use Rattle.rdnss.specs.Entries.{removed, namedAll}
+use Rattle.rdnss.specs.Area.{addressesFrom}
+use Rattle.rdnss.specs.ServerList.{servers, held, packed}
+use Rattle.rdnss.proofs.AreaLaws.{acting-length, count-fits}
+use Rattle.rdnss.proofs.CallLaws.{ignored, withdraws, names}
+use borrow.Author.Needs.{needs}
+use Rattle.rdnss.proofs.option.apply.Statement.{statement}
+use Rattle.rdnss.proofs.option.apply.Tie as tie
+
+is-acting-requires : tie.Need-is-acting-requires
+is-acting-requires c κs = search needs
+
+returns : tie.Need-returns
+returns c =
+    let s = c .before .before .before in
+    s .pre .0 .packs ∙ ap (packed (s .args .l .clock)) (sym (ignored (s .args .clock) (held (s .args .l)) (s .args .option .now) (sym (c .before .is-acting .ensures) ∙ not-true _ (c .if1 .taken))))
+
+shared-slice-read-address-count : tie.Need-shared-slice-read-address-count
+shared-slice-read-address-count c =
+    let s = c .before .before .before .before in
+    let v = s .args .option .now in
+    omega (arith, s .pre .1 .whole, acting-length v (sym (c .before .before .is-acting .ensures) ∙ not-false _ (c .before .if1 .left)))
+
+cast-address-count : tie.Need-cast-address-count
+cast-address-count c = search needs
+
+address-count-requires : tie.Need-address-count-requires
+address-count-requires c κs =
+    let v = c .before .before .before .before .args .option .now in
+    acting-length v (sym (c .before .before .is-acting .ensures) ∙ not-false _ (c .before .if1 .left))
+
+u32-at-requires : tie.Need-u32-at-requires
+u32-at-requires c κs = search needs
+
+withdraw-all-requires : tie.Need-withdraw-all-requires
+withdraw-all-requires c κs =
+    let s = c .before .before .before .before .before .before .before .before in
+    let v = s .args .option .now in
+    let a = sym (c .before .before .before .before .before .before .is-acting .ensures) ∙ not-false _ (c .before .before .before .before .before .if1 .left) in
+    (s .pre .0, omega (arith, s .pre .1 .whole, c .before .before .before .address-count .ensures, count-fits (getD v 1 0) (acting-length v a)))
+
+returns-2 : tie.Need-returns-2
+returns-2 c =
+    let s = c .before .before .before .before .before .before .before .before .before in
+    let v = s .args .option .now in
+    let l = s .args .l in
+    let a = sym (c .before .before .before .before .before .before .before .is-acting .ensures) ∙ not-false _ (c .before .before .before .before .before .before .if1 .left) in
+    let z = sym (c .before .before .before .u32-at .ensures) ∙ c .before .if2 .taken in
+    c .withdraw-all .ensures
+    ∙ ap (λ (n : ℕ). packed (l .clock) (foldl (λ t a. removed servers a t) (held l) (addressesFrom n (drop 8 v)))) (c .before .before .before .before .address-count .ensures)
+    ∙ ap (packed (l .clock)) (sym (withdraws (s .args .clock) (held l) v a z))
+
+expiry-after-requires : tie.Need-expiry-after-requires
+expiry-after-requires c κs = search needs
+
+name-all-requires : tie.Need-name-all-requires
+name-all-requires c κs =
+    let s = c .before .before .before .before .before .before .before .before .before in
+    let v = s .args .option .now in
+    let a = sym (c .before .before .before .before .before .before .before .is-acting .ensures) ∙ not-false _ (c .before .before .before .before .before .before .if1 .left) in
+    (s .pre .0, omega (arith, s .pre .1 .whole, c .before .before .before .before .address-count .ensures, count-fits (getD v 1 0) (acting-length v a)))
+
+returns-3 : tie.Need-returns-3
+returns-3 c =
+    let s = c .before .before .before .before .before .before .before .before .before .before in
+    let v = s .args .option .now in
+    let l = s .args .l in
+    let a = sym (c .before .before .before .before .before .before .before .before .is-acting .ensures) ∙ not-false _ (c .before .before .before .before .before .before .before .if1 .left) in
+    let u = c .before .before .before .before .u32-at .ensures in
+    c .name-all .ensures
+    ∙ ap (λ (n : ℕ). packed (l .clock) (namedAll servers false (c .before .expiry-after .result) (addressesFrom n (drop 8 v)) (held l))) (c .before .before .before .before .before .address-count .ensures)
+    ∙ ap (packed (l .clock)) (rw (c .before .expiry-after .ensures, u) (sym (names (s .args .clock) (held l) v a (λ z. c .before .before .if2 .left (u ∙ z)))))
+
+pub apply-spec : {M : Type 1} → statement M
+apply-spec =
+    tie.close
+    (tie.spec
+    is-acting-requires
+    returns
+    shared-slice-read-address-count
+    cast-address-count
+    address-count-requires
+    u32-at-requires
+    withdraw-all-requires
+    returns-2
+    expiry-after-requires
+    name-all-requires
+    returns-3)

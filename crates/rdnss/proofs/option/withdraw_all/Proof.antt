@@ -1,0 +1,83 @@
+use Prim.Native.Nat.{_≤_, _<_, _+_, _-_, _*_}
+use mathlib.Core.Path.{_≡_, sym, _∙_, refl, ap}
+use mathlib.Core.List.{List, foldl}
+use native.Mathlib.Omega.{arith}
+use borrow.Author.Needs.{needs}
+use lib.ListN.{length, drop}
+use Rattle.rdnss.specs.Entries.{removed}
+use Rattle.rdnss.specs.Area.{addressesFrom}
+use Rattle.rdnss.specs.ServerList.{servers, held, packed}
+use Rattle.rdnss.specs.Places.{InPlaces}
+use Rattle.rdnss.specs.declared.Address6.{Address6}
+use Rattle.rdnss.specs.declared.Server.{Server}
+use Rattle.rdnss.proofs.OptionLaws.{addresses-start, addresses-more, addresses-end, withdrawn-places, withdrawn-held, withdrawn-clock}
+use Rattle.rdnss.proofs.option.withdraw_all.Statement.{statement}
+use Rattle.rdnss.proofs.option.withdraw_all.Tie as tie
+
+abbrev Inv-loop : tie.InvT-loop
+Inv-loop v n m₀ j₀ m j =
+    (j ≤ n) × InPlaces m × (m .clock ≡ m₀ .clock)
+    × (foldl (λ h a. removed servers a h) (held m₀) (addressesFrom n (drop 8 v)) ≡ foldl (λ h a. removed servers a h) (held m) (addressesFrom (n - j) (drop (8 + 16 * j) v)))
+
+abbrev μ-loop : tie.MeasureT-loop
+μ-loop v n m₀ j₀ m j = n - j
+
+loop-holds : tie.Need-loop-holds Inv-loop μ-loop
+loop-holds c = (omega arith, c .before .pre .0, refl, ap (foldl (λ h a. removed servers a h) (held (c .before .args .l))) (addresses-start (c .before .args .n) (drop 8 (c .before .args .v .now))))
+
+mul-address-at : tie.Need-mul-address-at Inv-loop μ-loop
+mul-address-at c = search needs
+
+add-address-at : tie.Need-add-address-at Inv-loop μ-loop
+add-address-at c = search needs
+
+address-at-requires : tie.Need-address-at-requires Inv-loop μ-loop
+address-at-requires c κs = search needs
+
+withdraw-requires : tie.Need-withdraw-requires Inv-loop μ-loop
+withdraw-requires c κs = search needs
+
+add-j : tie.Need-add-j Inv-loop μ-loop
+add-j c = search needs
+
+loop-less : tie.Need-loop-less Inv-loop μ-loop
+loop-less c = search needs
+
+loop-again : tie.Need-loop-again Inv-loop μ-loop
+loop-again c =
+    let s = c .before .before .before .before .before in
+    let l = c .before .before .before .loop in
+    let h = l .inv in
+    let v = s .args .v .now in
+    let e = c .withdraw .ensures in (
+      omega arith,
+      withdrawn-places (h .1) _ e,
+      withdrawn-clock (h .1) _ e ∙ h .2,
+      h .3 ∙ ap (foldl (λ t a. removed servers a t) (held (l .m))) (addresses-more v (s .args .n) (l .j) (omega arith))
+          ∙ ap (λ (t : List Server). foldl (λ t a. removed servers a t) t (addressesFrom (s .args .n - (l .j + 1)) (drop (8 + 16 * (l .j + 1)) v)))
+          (ap (λ (a : Address6). removed servers a (held (l .m))) (sym (c .before .address-at .ensures)) ∙ sym (withdrawn-held (h .1) _ e)),
+    )
+
+returns : tie.Need-returns Inv-loop μ-loop
+returns c =
+    let s = c .before .before .before in
+    let l = c .before .loop in
+    let h = l .inv in
+    let v = s .args .v .now in
+    h .1 .packs ∙ rw (h .2, h .3, addresses-end (s .args .n) (l .j) (drop (8 + 16 * l .j) v) (omega arith))
+
+pub withdraw-all-spec : {M : Type 1} → statement M
+withdraw-all-spec =
+    tie.close
+    (tie.spec
+    Inv-loop
+    μ-loop
+    loop-holds
+    mul-address-at
+    add-address-at
+    address-at-requires
+    withdraw-requires
+    add-j
+    loop-less
+    loop-again
+    returns)

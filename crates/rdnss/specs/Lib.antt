@@ -1,0 +1,5 @@
+-- The definitions that the contracts cite: Entries, Area and ServerList are those of the promises; Places is how the inner functions speak of the list.
+pub mod Entries
+pub mod Area
+pub mod ServerList
+pub mod Places

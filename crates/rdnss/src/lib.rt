@@ -1,0 +1,92 @@
+// The DNS server list of RFC 5006: the servers that routers name, in order of preference, each until
+// it expires.
+pub mod area;
+pub mod form;
+pub mod list;
+pub mod option;
+
+use clock::Moment;
+ghost use mathlib.Core.Path.{_≡_};
+ghost use mathlib.Core.List.{[]};
+ghost use Rattle.rdnss.specs.ServerList.{packed, serverList};
+
+// An IPv6 address.
+#[repr(C)]
+pub struct Address6 {
+    pub octets: [u8; 16],
+}
+
+// A DNS server and when it expires: a moment, or clock::NEVER.
+#[repr(C)]
+pub struct Server {
+    pub address: Address6,
+    pub expiry: Moment,
+}
+
+// The servers, the preferred one first, and the last accepted clock. Places past the count are not
+// looked at, and are zero in a list that a call made.
+#[repr(C)]
+pub struct ServerList {
+    pub entries: [Server; 8],
+    pub count: usize,
+    pub clock: Moment,
+}
+
+// The refusal number, 0 for none, and the new list; with a refusal, the list as it was handed in.
+#[repr(C)]
+pub struct ServerListAnswer {
+    pub refusal: u32,
+    pub list: ServerList,
+}
+
+// A list without servers.
+pub fn empty(clock: Moment) -> ServerList
+    ensures { λ r. ⌜ r ≡ packed clock [] ⌝ }
+{
+    let blank = Server {
+        address: Address6 { octets: [0; 16] },
+        expiry: Moment(0),
+    };
+    ServerList {
+        entries: [blank; 8],
+        count: 0,
+        clock: clock,
+    }
+}
+
+// The list after a router's option area has come in at a clock. Refused are, in this order: a list
+// that is not sound (31), a clock above clock::LATEST or behind the list's (15), and an area of more
+// than 1,500 octets, or with an option of Length 0 or past the end (16).
+#[no_mangle]
+pub extern "C" fn jespurla_server_list(
+    list: ServerList,
+    clock: Moment,
+    area: &[u8],
+) -> ServerListAnswer
+    ensures { λ r. ⌜ r ≡ serverList list clock (now (area .entry)) ⌝ }
+{
+    if !form::is_sound(list) {
+        return ServerListAnswer {
+            refusal: 31,
+            list: list,
+        };
+    }
+    if !form::is_timely(list, clock) {
+        return ServerListAnswer {
+            refusal: 15,
+            list: list,
+        };
+    }
+    if !area::is_area(area) {
+        return ServerListAnswer {
+            refusal: 16,
+            list: list,
+        };
+    }
+    let unexpired = list::without_expired(list, clock);
+    let applied = area::apply_all(unexpired, area, clock);
+    ServerListAnswer {
+        refusal: 0,
+        list: applied,
+    }
+}

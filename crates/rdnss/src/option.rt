@@ -1,0 +1,174 @@
+// One option of the area, applied to the list.
+use crate::Address6;
+use crate::Server;
+use crate::ServerList;
+use crate::list;
+use clock::Moment;
+use clock::Span;
+ghost use mathlib.Core.Path.{_≡_};
+ghost use mathlib.Core.Bool.{false};
+ghost use mathlib.Core.List.{foldl};
+ghost use Prim.Native.Nat.{_+_, _-_, _*_, _/_, _≤_, _<_, min};
+ghost use lib.ListN.{length, take, drop, getD};
+ghost use Rattle.rdnss.specs.Entries.{marking, roomed, inserted, named, namedAll, removed};
+ghost use Rattle.rdnss.specs.Area.{acts, addressesFrom};
+ghost use Rattle.rdnss.specs.ServerList.{servers, held, packed, optionApplied};
+ghost use Rattle.rdnss.specs.Places.{InPlaces, Ready, Holds, marks, OptionFits};
+
+// A list while an option is applied, and how many of its first entries this option inserted.
+pub(crate) struct Placed {
+    pub list: ServerList,
+    pub at: usize,
+}
+
+// Room for one more entry.
+fn make_room(p: Placed) -> Placed
+    requires { ⌜ Ready p ⌝ }
+    ensures { λ r. ⌜ Holds (p .list .clock) (roomed (marking servers) (marks p)) r ⌝ }
+{
+    let l = p.list;
+    let at = p.at;
+    if l.count < 8 {
+        return p;
+    }
+    let k = list::evict_place(l);
+    let m = list::remove_at(l, k);
+    if k < at {
+        return Placed {
+            list: m,
+            at: at - 1,
+        };
+    }
+    Placed { list: m, at: at }
+}
+
+// A new entry, behind those which this option inserted.
+fn insert(p: Placed, a: Address6, x: Moment) -> Placed
+    requires { ⌜ Ready p ⌝ }
+    ensures { λ r. ⌜ Holds (p .list .clock) (inserted (marking servers .entry a x) (roomed (marking servers) (marks p))) r ⌝ }
+{
+    let q = make_room(p);
+    let at = q.at;
+    let m = list::insert_at(
+        q.list,
+        at,
+        Server {
+            address: a,
+            expiry: x,
+        },
+    );
+    Placed {
+        list: m,
+        at: at + 1,
+    }
+}
+
+// One address of an option that does not withdraw.
+fn name(p: Placed, a: Address6, x: Moment) -> Placed
+    requires { ⌜ Ready p ⌝ }
+    ensures { λ r. ⌜ Holds (p .list .clock) (named servers false x (marks p) a) r ⌝ }
+{
+    let l = p.list;
+    let k = list::find(l, 0, a);
+    if k < l.count {
+        let m = list::renew_at(l, k, x);
+        return Placed { list: m, at: p.at };
+    }
+    insert(p, a, x)
+}
+
+// One address of an option that withdraws.
+fn withdraw(l: ServerList, a: Address6) -> ServerList
+    requires { ⌜ InPlaces l ⌝ }
+    ensures { λ r. ⌜ r ≡ packed (l .clock) (removed servers a (held l)) ⌝ }
+{
+    let k = list::find(l, 0, a);
+    if k < l.count {
+        return list::remove_at(l, k);
+    }
+    l
+}
+
+// The address at a place.
+fn address_at(v: &[u8], at: usize) -> Address6
+    requires { ⌜ at + 16 ≤ length (now v) ⌝ }
+    ensures { λ r. ⌜ r ≡ record { octets = take 16 (drop at (now (v .entry))) } ⌝ }
+{
+    let mut o = [0u8; 16];
+    let mut i: usize = 0;
+    while i < 16 {
+        o[i] = v[at + i];
+        i += 1;
+    }
+    Address6 { octets: o }
+}
+
+// The first n addresses of an option, withdrawn.
+fn withdraw_all(l: ServerList, v: &[u8], n: usize) -> ServerList
+    requires { ⌜ InPlaces l × (8 + 16 * n ≤ length (now v)) ⌝ }
+    ensures { λ r. ⌜ r ≡ packed (l .clock) (foldl (λ h a. removed servers a h) (held l) (addressesFrom n (drop 8 (now (v .entry))))) ⌝ }
+{
+    let mut m = l;
+    let mut j: usize = 0;
+    while j < n {
+        let a = address_at(v, 8 + 16 * j);
+        m = withdraw(m, a);
+        j += 1;
+    }
+    m
+}
+
+// The first n addresses of an option, renewed or inserted.
+fn name_all(l: ServerList, v: &[u8], n: usize, x: Moment) -> ServerList
+    requires { ⌜ InPlaces l × (8 + 16 * n ≤ length (now v)) ⌝ }
+    ensures { λ r. ⌜ r ≡ packed (l .clock) (namedAll servers false x (addressesFrom n (drop 8 (now (v .entry)))) (held l)) ⌝ }
+{
+    let mut p = Placed { list: l, at: 0 };
+    let mut j: usize = 0;
+    while j < n {
+        let a = address_at(v, 8 + 16 * j);
+        p = name(p, a, x);
+        j += 1;
+    }
+    p.list
+}
+
+// Whether an option acts: Type 25 with odd Length of at least 3.
+fn is_acting(option: &[u8]) -> bool
+    ensures { λ r. ⌜ r ≡ acts (now (option .entry)) ⌝ }
+{
+    if octets::number::octet_at(option, 0) != 25 {
+        return false;
+    }
+    let length = octets::number::octet_at(option, 1);
+    if length < 3 {
+        return false;
+    }
+    length % 2 == 1
+}
+
+// How many addresses of an option of this Length count: the first three.
+fn address_count(length: usize) -> usize
+    requires { ⌜ 3 ≤ length ⌝ }
+    ensures { λ r. ⌜ r ≡ min ((length - 1) / 2) 3 ⌝ }
+{
+    let n = (length - 1) / 2;
+    if n < 3 { n } else { 3 }
+}
+
+// One option, as the part of the area where it starts.
+pub(crate) fn apply(l: ServerList, option: &[u8], clock: Moment) -> ServerList
+    requires { ⌜ InPlaces l × OptionFits (now option) ⌝ }
+    ensures { λ r. ⌜ r ≡ packed (l .clock) (optionApplied clock (held l) (now (option .entry))) ⌝ }
+{
+    if !is_acting(option) {
+        return l;
+    }
+    let n = address_count(option[1] as usize);
+    let lifetime = Span(octets::number::u32_at(option, 4));
+    if lifetime.0 == 0 {
+        return withdraw_all(l, option, n);
+    }
+    let x = clock::expiry_after(clock, lifetime);
+    name_all(l, option, n, x)
+}
