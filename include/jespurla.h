@@ -28,6 +28,17 @@ extern "C" {
 #define JESPURLA_REFUSAL(number) ((uint32_t)(number) >> 16)
 #define JESPURLA_RESULT(number) ((uint32_t)(number) & 0xffffu)
 
+/*
+ * A moment on the clock, in seconds: 0 to JESPURLA_LATEST. Where it is an expiry it may also be
+ * JESPURLA_NEVER. Any other number breaks the form of the record that holds it.
+ */
+typedef struct {
+    uint64_t seconds;
+} jespurla_moment;
+
+#define JESPURLA_LATEST UINT64_C(0xffffffffffff)
+#define JESPURLA_NEVER UINT64_MAX
+
 /* The bits of a name option's flags octet (RFC 4704). */
 #define JESPURLA_FLAG_S 1
 #define JESPURLA_FLAG_O 2
@@ -64,6 +75,46 @@ uint32_t jespurla_name_option_answer(const uint8_t *value, size_t value_length,
                                      const uint8_t *suffix, size_t suffix_length,
                                      uint8_t honour_s, uint8_t honour_n,
                                      uint8_t *reply, size_t reply_length);
+
+/* A DNS server that a router announced: an IPv6 address and its expiry. */
+typedef struct {
+    uint8_t address[16];
+    jespurla_moment expiry;
+} jespurla_server;
+
+/*
+ * The DNS servers, the preferred one first, and the last accepted clock. A list of zeros is empty, at
+ * clock 0. Entries past the count are not looked at, and are zero in a list that a call made.
+ */
+typedef struct {
+    jespurla_server entries[8];
+    size_t count;
+    jespurla_moment clock;
+} jespurla_server_list_state;
+
+typedef struct {
+    uint32_t refusal;
+    jespurla_server_list_state list;
+} jespurla_server_list_answer;
+
+/*
+ * The DNS server list (RFC 5006) after a router's option area has come in.
+ *
+ * list: the list as the call before returned it.
+ * clock: now.
+ * area, area_length: the options of a router advertisement, one behind the other.
+ *
+ * Result: refusal 0, and the new list at the new clock; or a refusal, and the very list that was
+ * handed in.
+ * Refusals, the first that applies: 31 list with a count over 8, two entries of one address, an
+ * expiry that is neither a moment nor never, or a clock above JESPURLA_LATEST; 15 clock above
+ * JESPURLA_LATEST or behind the list's; 16 area over 1,500 octets, or with an option of Length 0 or
+ * one past the end.
+ * Promise: the refusal and every field of the list are those that the rules give.
+ */
+jespurla_server_list_answer jespurla_server_list(jespurla_server_list_state list,
+                                                 jespurla_moment clock,
+                                                 const uint8_t *area, size_t area_length);
 
 #ifdef __cplusplus
 }

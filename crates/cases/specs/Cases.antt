@@ -3,8 +3,11 @@ use mathlib.Core.Path.{_≡_}
 use mathlib.Core.List.{List, [], _∷_, _++_}
 use Prim.Native.Nat.{ℕ}
 use lib.ListN.{replicate}
+use Rattle.clock.specs.Clock.{moment}
 use Rattle.fqdn.specs.Flags.{refusal, flagAnswer}
 use Rattle.fqdn.specs.Answer.{answerOf, octetsOf, resultOf}
+use Rattle.rdnss.specs.ServerList.{packed, answer, serverList}
+use Rattle.rdnss.specs.declared.Server.{Server}
 
 -- A case: what is asked, and what is to come of it.
 pub data Case : Type 0 where
@@ -12,11 +15,14 @@ pub data Case : Type 0 where
   flags : ℕ → ℕ → ℕ → ℕ → Case
   -- the answer to an option value with a suffix, neither bit honoured, in a buffer of 256 octets: the octets written and the number answered
   option : List ℕ → List ℕ → List ℕ → ℕ → Case
+  -- the server list at a moment after an area that comes in then: the servers held before, with the clock of that list, and those held after
+  area : ℕ → List Server → ℕ → List ℕ → List Server → Case
 
 unfoldable pub Holds : Case → Type 0
 Holds (flags f s n number) = flagAnswer f s n ≡ number
 Holds (option value suffix octets number) =
     (octetsOf (answerOf value suffix 0 0 256) value suffix ≡ octets) × (resultOf (answerOf value suffix 0 0 256) octets ≡ number)
+Holds (area last before now octets after) = serverList (packed (moment last) before) (moment now) octets ≡ answer 0 (packed (moment now) after)
 
 unfoldable pub All : List Case → Type 0
 All [] = Unit
@@ -25,6 +31,14 @@ All (c ∷ cs) = Holds c × All cs
 -- the suffix of P5 and P6: stage
 abbrev stage : List ℕ
 stage = 5 ∷ 115 ∷ 116 ∷ 97 ∷ 103 ∷ 101 ∷ 0 ∷ []
+
+-- the servers of P7 to P9: an address of 16 octets that are alike, until a moment
+abbrev server : ℕ → ℕ → Server
+server octet until = record { address = record { octets = replicate 16 octet }; expiry = moment until }
+
+-- an option of Type 25 with a Length and a Lifetime under 256, and the octets of its addresses
+abbrev servers : ℕ → ℕ → List ℕ → List ℕ
+servers units lifetime octets = 25 ∷ units ∷ 0 ∷ 0 ∷ 0 ∷ 0 ∷ 0 ∷ lifetime ∷ octets
 
 unfoldable pub cases : List Case
 cases =
@@ -44,4 +58,12 @@ cases =
     -- P6: a label of 63 octets passes, one of 64 is refused
     ∷ option (0 ∷ 63 ∷ replicate 63 97 ++ (0 ∷ [])) stage (0 ∷ 63 ∷ replicate 63 97 ++ (0 ∷ [])) 66
     ∷ option (0 ∷ 64 ∷ replicate 64 97 ++ (0 ∷ [])) stage [] (refusal 11)
+    -- P7: an option of Length 4 is ignored
+    ∷ area 0 [] 0 (servers 4 60 (replicate 24 1)) []
+    -- P8: the list holds C, an option names A and B: A, B, C
+    ∷ area 0 (server 3 90 ∷ []) 0 (servers 5 60 (replicate 16 1 ++ replicate 16 2)) (server 1 60 ∷ server 2 60 ∷ server 3 90 ∷ [])
+    -- P9: Lifetime 60 at 100; held at 160, gone at 161
+    ∷ area 0 [] 100 (servers 3 60 (replicate 16 1)) (server 1 160 ∷ [])
+    ∷ area 100 (server 1 160 ∷ []) 160 [] (server 1 160 ∷ [])
+    ∷ area 100 (server 1 160 ∷ []) 161 [] []
     ∷ []
