@@ -26,6 +26,8 @@ pub record Laid (buffer : List ℕ) (at : ℕ) (ys after : List ℕ) (end : ℕ)
   pub list : after ≡ laidAt buffer at ys
   pub next : end ≡ nextAt buffer at ys
 
+-- ---- for the contracts of inner functions; no public promise cites these
+
 -- ys fitted, and was written.
 pub record Wrote (buffer : List ℕ) (at : ℕ) (ys after : List ℕ) (end : ℕ) : Type 0 where
   pub list : after ≡ put buffer at ys
