@@ -52,6 +52,13 @@ resultOf (Refused number) octets = refusal number
 resultOf (Whole flags) octets = length octets
 resultOf (Completed flags) octets = length octets
 
+-- The promise of the call: what it answers, r, and what the reply buffer holds then, after. The octets past the answer, and all where it is refused, are as before.
+pub record Answered (value suffix : List ℕ) (s n : ℕ) (before : List ℕ) (r : ℕ) (after : List ℕ) : Type 0 where
+  pub result : r ≡ resultOf (answerOf value suffix s n (length before)) (octetsOf (answerOf value suffix s n (length before)) value suffix)
+  pub buffer : after ≡ laid (octetsOf (answerOf value suffix s n (length before)) value suffix) before
+
+-- ---- for the contracts of inner functions; no public promise cites these
+
 -- A value and what follows its name come to at most 256 octets, and the buffer has room for as many.
 pub record Room (value tail : List ℕ) (room : ℕ) : Type 0 where
   pub some : 0 < length value
@@ -62,8 +69,3 @@ pub record Room (value tail : List ℕ) (room : ℕ) : Type 0 where
 pub record Put (octets before : List ℕ) (r : ℕ) (after : List ℕ) : Type 0 where
   pub result : r ≡ length octets
   pub buffer : after ≡ laid octets before
-
--- The promise of the call: what it answers, r, and what the reply buffer holds then, after. The octets past the answer, and all where it is refused, are as before.
-pub record Answered (value suffix : List ℕ) (s n : ℕ) (before : List ℕ) (r : ℕ) (after : List ℕ) : Type 0 where
-  pub result : r ≡ resultOf (answerOf value suffix s n (length before)) (octetsOf (answerOf value suffix s n (length before)) value suffix)
-  pub buffer : after ≡ laid (octetsOf (answerOf value suffix s n (length before)) value suffix) before

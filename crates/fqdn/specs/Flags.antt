@@ -13,10 +13,6 @@ unfoldable pub honoured : ℕ → ℕ
 honoured zero = 0
 honoured (suc n) = 1
 
-pub record Honoured (number r : ℕ) : Type 0 where
-  pub is : r ≡ honoured number
-  pub small : r ≤ 1
-
 abbrev R : ℕ
 R = refusal 10
 
@@ -31,3 +27,10 @@ flagTable =
 -- Document 01, "Name option": the place in the table.
 unfoldable pub flagAnswer : ℕ → ℕ → ℕ → ℕ
 flagAnswer flags s n = getD flagTable (flags % 8 + 8 * honoured s + 16 * honoured n) 0
+
+-- ---- for the contract of an inner function; no public promise cites it
+
+-- 0 or 1 for a number.
+pub record Honoured (number r : ℕ) : Type 0 where
+  pub is : r ≡ honoured number
+  pub small : r ≤ 1
