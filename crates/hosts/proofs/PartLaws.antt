@@ -6,10 +6,10 @@ use Prim.Native.Nat.{ℕ, zero, suc, _+_, _≤_, _<_}
 use native.Mathlib.Numerals.{add-one}
 use native.Mathlib.Omega.{arith}
 use native.Mathlib.Decide.{ℕ-discrete}
-use lib.Dec.{ltb}
+use lib.Dec.{eqb, ltb}
 use lib.ListN.{length, getD, set, take, drop, length-map, List·getD-map, drop-of-length-le}
 use lib.Seq.{drop-cons, getD-take, length-take-le, take-suc-set, take-all}
-use borrow.Author.Tests.{ltb-true, ltb-false}
+use borrow.Author.Tests.{ltb-true, ltb-false, le-ltb, ne-eqb}
 use Rattle.octets.specs.Compare.{sameOctets}
 use Rattle.hosts.specs.Count.{Octets, member, distinct}
 use Rattle.hosts.specs.Addresses.{without}
@@ -101,3 +101,21 @@ module _ {A : Type 0} (f : A → Octets) (xs : List A) (n : ℕ) (fits : n ≤ l
     pub without-end : (a : Octets) → without a (drop i (part f xs n)) ≡ []
     unfolding without
     without-end a = rw part-end
+
+-- a count tells whether there is none, and whether there are four
+pub part-none : {A : Type 0} (f : A → Octets) (xs : List A) (n : ℕ) → length xs ≡ 4 → eqb (length (part f xs n)) 0 ≡ eqb n 0
+part-none f xs zero l = refl
+part-none f [] (suc n) l = absurd (omega arith)
+part-none f (x ∷ xs) (suc n) l = ne-eqb (length (part f (x ∷ xs) (suc n))) 0 (λ e. omega arith) ∙ sym (ne-eqb (suc n) 0 (λ e. omega arith))
+
+pub part-room : {A : Type 0} (f : A → Octets) (xs : List A) (n : ℕ) → length xs ≡ 4 → ltb (length (part f xs n)) 4 ≡ ltb n 4
+part-room f xs n l = go (ltb n 4) refl
+  where
+    go : (b : Bool) → ltb n 4 ≡ b → ltb (length (part f xs n)) 4 ≡ ltb n 4
+    go true q =
+        let h : n < 4 = ltb-true n 4 q in
+        ap (λ (m : ℕ). ltb m 4) (part-length f xs n (omega arith))
+    go false q =
+        let m : 4 ≤ n = ltb-false n 4 q in
+        let k : length (part f xs n) ≡ 4 = length-map (take n xs) f ∙ ap length (take-all n xs (omega arith)) ∙ l in
+        le-ltb (length (part f xs n)) 4 (omega arith) ∙ sym q

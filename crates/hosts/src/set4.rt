@@ -3,7 +3,10 @@ use crate::few;
 use octets::compare;
 ghost use mathlib.Core.Path.{_≡_};
 ghost use Prim.Native.Nat.{_≤_};
-ghost use lib.ListN.{drop};
+ghost use mathlib.Core.Bool.{_||_};
+ghost use mathlib.Core.List.{[]};
+ghost use lib.Dec.{eqb, ltb};
+ghost use lib.ListN.{drop, length};
 ghost use Rattle.octets.specs.Compare.{sameOctets};
 ghost use Rattle.hosts.specs.Count.{member, distinct};
 ghost use Rattle.hosts.specs.Addresses.{list4, sound, joined, without};
@@ -113,5 +116,35 @@ pub fn without4(s: Set4, a: Addr4) -> Set4
     Set4 {
         items: items,
         count: j as u8,
+    }
+}
+
+// Whether the set has no address.
+pub fn empty4(s: Set4) -> bool
+    ensures { λ r. ⌜ r ≡ eqb (length (list4 s)) 0 ⌝ }
+{
+    s.count == 0
+}
+
+// Whether the address is there, or there is room for it.
+pub fn fits4(s: Set4, a: Addr4) -> bool
+    ensures { λ r. ⌜ r ≡ (member (a .octets) (list4 s) || ltb (length (list4 s)) 4) ⌝ }
+{
+    if has4(s, a) {
+        return true;
+    }
+    s.count < 4
+}
+
+// The set of no addresses.
+pub fn none4() -> Set4
+    ensures { λ r. ⌜ (list4 r ≡ []) × (r .count ≡ 0) ⌝ }
+{
+    let zeros = [0u8; 4];
+    let blank = Addr4 { octets: zeros };
+    let items = [blank; 4];
+    Set4 {
+        items: items,
+        count: 0,
     }
 }

@@ -3,7 +3,10 @@ use crate::few;
 use octets::compare;
 ghost use mathlib.Core.Path.{_≡_};
 ghost use Prim.Native.Nat.{_≤_};
-ghost use lib.ListN.{drop};
+ghost use mathlib.Core.Bool.{_||_};
+ghost use mathlib.Core.List.{[]};
+ghost use lib.Dec.{eqb, ltb};
+ghost use lib.ListN.{drop, length};
 ghost use Rattle.octets.specs.Compare.{sameOctets};
 ghost use Rattle.hosts.specs.Count.{member, distinct};
 ghost use Rattle.hosts.specs.Addresses.{list6, sound, joined, without};
@@ -113,5 +116,35 @@ pub fn without6(s: Set6, a: Addr6) -> Set6
     Set6 {
         items: items,
         count: j as u8,
+    }
+}
+
+// Whether the set has no address.
+pub fn empty6(s: Set6) -> bool
+    ensures { λ r. ⌜ r ≡ eqb (length (list6 s)) 0 ⌝ }
+{
+    s.count == 0
+}
+
+// Whether the address is there, or there is room for it.
+pub fn fits6(s: Set6, a: Addr6) -> bool
+    ensures { λ r. ⌜ r ≡ (member (a .octets) (list6 s) || ltb (length (list6 s)) 4) ⌝ }
+{
+    if has6(s, a) {
+        return true;
+    }
+    s.count < 4
+}
+
+// The set of no addresses.
+pub fn none6() -> Set6
+    ensures { λ r. ⌜ (list6 r ≡ []) × (r .count ≡ 0) ⌝ }
+{
+    let zeros = [0u8; 16];
+    let blank = Addr6 { octets: zeros };
+    let items = [blank; 4];
+    Set6 {
+        items: items,
+        count: 0,
     }
 }

@@ -1,0 +1,64 @@
+use mathlib.Core.Path.{_≡_, refl, sym, _∙_, ap}
+use Prim.Native.Nat.{ℕ, _≤_, _<_, _-_, _+_, _*_}
+use native.Mathlib.Omega.{arith}
+use lib.ListN.{length, drop, getD}
+use borrow.Author.Needs.{needs}
+use Rattle.zone.specs.Survey.{printFrom}
+use Rattle.zone.proofs.PrintLaws.{print-step, print-end}
+use Rattle.zone.proofs.print.print.Statement.{statement}
+use Rattle.zone.proofs.print.print.Tie as tie
+
+abbrev Inv-loop : tie.InvT-loop
+Inv-loop s sum₀ sums₀ i₀ sum sums i = (i ≤ length s) × (sum ≤ 255 * i) × (sums ≤ 65025 * i) × (printFrom 0 0 s ≡ printFrom sum sums (drop i s))
+
+abbrev μ-loop : tie.MeasureT-loop
+μ-loop s sum₀ sums₀ i₀ sum sums i = length s - i
+
+loop-holds : tie.Need-loop-holds Inv-loop μ-loop
+loop-holds c = (search needs, search needs, search needs, refl)
+
+shared-slice-read-wide : tie.Need-shared-slice-read-wide Inv-loop μ-loop
+shared-slice-read-wide c = omega arith
+
+wide-requires : tie.Need-wide-requires Inv-loop μ-loop
+wide-requires c κs = search needs
+
+add-sum : tie.Need-add-sum Inv-loop μ-loop
+add-sum c = omega arith
+
+add-sums : tie.Need-add-sums Inv-loop μ-loop
+add-sums c = omega arith
+
+add-i : tie.Need-add-i Inv-loop μ-loop
+add-i c = omega arith
+
+loop-less : tie.Need-loop-less Inv-loop μ-loop
+loop-less c = omega arith
+
+loop-again : tie.Need-loop-again Inv-loop μ-loop
+loop-again c =
+    let s = c .before .before .before .before .before .args .s .now in
+    let l = c .before .before .before .loop in
+    let h : printFrom 0 0 s ≡ printFrom (l .sum + getD s (l .i) 0) (l .sums + (l .sum + getD s (l .i) 0)) (drop (l .i + 1) s) = l .inv .3 ∙ print-step s (l .i) (l .sum) (l .sums) (omega arith) in
+    (omega arith, omega arith, omega arith, h ∙ ap (λ x. printFrom (l .sum + x) (l .sums + (l .sum + x)) (drop (l .i + 1) s)) (sym (c .wide .ensures .0)))
+
+returns : tie.Need-returns Inv-loop μ-loop
+returns c =
+    let l = c .before .loop in
+    sym (l .inv .3 ∙ print-end (c .before .before .before .args .s .now) (l .i) (l .sum) (l .sums) (omega arith))
+
+pub print-spec : {M : Type 1} → statement M
+print-spec =
+    tie.close
+    (tie.spec
+    Inv-loop
+    μ-loop
+    loop-holds
+    shared-slice-read-wide
+    wide-requires
+    add-sum
+    add-sums
+    add-i
+    loop-less
+    loop-again
+    returns)

@@ -1,0 +1,71 @@
+-- What inner functions find and decide. No public promise cites these.
+use mathlib.Core.Path.{_≡_}
+use mathlib.Core.Bool.{Bool, true, false, cond, not, _&&_, _||_}
+use mathlib.Core.List.{List, [], _∷_}
+use Prim.Native.Nat.{ℕ, suc, _+_, _<_}
+use lib.Dec.{eqb}
+use lib.ListN.{getD, set}
+use Rattle.octets.specs.Compare.{sameOctets}
+use Rattle.dname.specs.Name.{key, sameName}
+use Rattle.hosts.specs.Count.{Octets, distinct}
+use Rattle.zone.specs.declared.entry.Entry.{Entry}
+use Rattle.zone.specs.declared.entry.Seen.{Seen}
+use Rattle.zone.specs.declared.survey.Zone.{Zone}
+use Rattle.zone.specs.declared.survey.Survey.{Survey}
+use Rattle.zone.specs.declared.decide.Change.{Change}
+use Rattle.zone.specs.Zone.{Outcome}
+use Rattle.zone.specs.Meaning.{nameOf, used, inOrder, keyOf, keys, allInOrder, zoneOf, formed}
+use Rattle.zone.specs.Promise.{numberOf}
+
+-- ---- fingerprints: equal names have equal ones
+
+-- a running sum, and the sum of the running sums
+unfoldable pub printFrom : ℕ → ℕ → List ℕ → ℕ
+printFrom sum sums [] = sums
+printFrom sum sums (x ∷ s) = printFrom (sum + x) (sums + (sum + x)) s
+
+abbrev pub printOf : Octets → ℕ
+printOf name = printFrom 0 0 (key name)
+
+unfoldable pub among : ℕ → List ℕ → Bool
+among x [] = false
+among x (y ∷ l) = eqb y x || among x l
+
+unfoldable pub repeated : List ℕ → Bool
+repeated [] = false
+repeated (x ∷ l) = among x l || repeated l
+
+-- ---- one place
+
+unfoldable pub named : Octets → Entry → Bool
+named n e = used e && sameName (nameOf (e .name)) n
+
+pub record Looked (n : Octets) (e : Entry) (r : Seen) : Type 0 where
+  pub used-is : r .used ≡ used e
+  pub order-is : r .inorder ≡ cond (used e) (inOrder e) true
+  pub named-is : r .named ≡ named n e
+  pub print-is : used e ≡ true → r .print ≡ printOf (nameOf (e .name))
+
+-- ---- the places of a zone
+
+-- the last place where a test holds, counted from i; where there is none, the number given
+unfoldable pub placeFrom : {A : Type 0} → (A → Bool) → ℕ → ℕ → List A → ℕ
+placeFrom p i otherwise [] = otherwise
+placeFrom p i otherwise (x ∷ l) = placeFrom p (suc i) (cond (p x) i otherwise) l
+
+pub record Surveyed (z : Zone) (n : Octets) (s : Survey) : Type 0 where
+  pub order-is : s .inorder ≡ allInOrder (z .entries)
+  pub clear : s .clear ≡ true → distinct (keys (z .entries)) ≡ true
+  pub found-is : s .found ≡ placeFrom (named n) 0 64 (z .entries)
+  pub free-is : s .free ≡ placeFrom (λ (e : Entry). not (used e)) 0 64 (z .entries)
+  pub entry-is : (d : Entry) → s .found < 64 → s .entry ≡ getD (z .entries) (s .found) d
+
+-- ---- what a request comes to: an answer, and one place written, or none where it says 64
+
+abbrev pub changed : Zone → Change → Zone
+changed z w = record { entries = set (z .entries) (w .place) (w .entry) }
+
+pub record Decided (z : Zone) (right : Outcome) (w : Change) : Type 0 where
+  pub answer-is : w .answer ≡ numberOf (right .answer)
+  pub stays : ¬ (w .place < 64) → zoneOf z ≡ right .zone
+  pub writes : w .place < 64 → (formed (changed z w) ≡ true) × (zoneOf (changed z w) ≡ right .zone)

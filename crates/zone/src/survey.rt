@@ -1,0 +1,81 @@
+// The 64 places of a zone, summed up.
+use crate::entry;
+use crate::entry::Entry;
+use crate::name;
+use crate::name::Name;
+use crate::print;
+ghost use mathlib.Core.Path.{_≡_};
+ghost use mathlib.Core.Bool.{cond, _&&_, not};
+ghost use lib.ListN.{drop};
+ghost use Prim.Native.Nat.{_≤_, _<_};
+ghost use Rattle.hosts.specs.Addresses.{one};
+ghost use Rattle.hosts.specs.Count.{distinct, member};
+ghost use Rattle.zone.specs.Meaning.{nameOf, keys, formed};
+ghost use Rattle.zone.specs.Survey.{Surveyed};
+
+#[repr(C)]
+pub struct Zone {
+    pub entries: [Entry; 64],
+}
+
+// inorder: every place is in order. clear: no two fingerprints are equal, so no two names are.
+// found: the place of the wanted name, and free: a free place, each 64 where there is none.
+// entry: what stands at the place found.
+pub(crate) struct Survey {
+    pub inorder: bool,
+    pub clear: bool,
+    pub found: usize,
+    pub free: usize,
+    pub entry: Entry,
+}
+
+fn one(b: bool) -> usize
+    ensures { λ r. ⌜ r ≡ one b ⌝ }
+{
+    if b { 1 } else { 0 }
+}
+
+fn both(a: bool, b: bool) -> bool
+    ensures { λ r. ⌜ r ≡ (a && b) ⌝ }
+{
+    if a { b } else { false }
+}
+
+fn choose(b: bool, x: usize, y: usize) -> usize
+    ensures { λ r. ⌜ r ≡ cond b x y ⌝ }
+{
+    if b { x } else { y }
+}
+
+// The one function that reads every place.
+pub(crate) fn survey_of(z: Zone, wanted: Name) -> Survey
+    ensures { λ r. ⌜ Surveyed z (nameOf wanted) r ⌝ }
+{
+    let print = name::print(wanted);
+    let mut prints = [0u32; 64];
+    let mut used: usize = 0;
+    let mut inorder = true;
+    let mut found: usize = 64;
+    let mut free: usize = 64;
+    let mut i: usize = 0;
+    while i < 64 {
+        let e = z.entries[i];
+        let seen = entry::look(e, wanted, print);
+        prints[used] = seen.print;
+        used = used + one(seen.used);
+        inorder = both(inorder, seen.inorder);
+        found = choose(seen.named, i, found);
+        free = choose(seen.used, free, i);
+        i += 1;
+    }
+    let repeats = print::repeats(&prints[..used]);
+    let at = choose(found < 64, found, 0);
+    let e = z.entries[at];
+    Survey {
+        inorder: inorder,
+        clear: !repeats,
+        found: found,
+        free: free,
+        entry: e,
+    }
+}
