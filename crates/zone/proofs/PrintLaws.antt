@@ -2,7 +2,7 @@
 use mathlib.Core.Path.{_≡_, refl, sym, _∙_, ap}
 use mathlib.Core.Bool.{Bool, true, false, not, _&&_, _||_, or-false}
 use mathlib.Core.List.{List, [], _∷_, map}
-use Prim.Native.Nat.{ℕ, _+_, _≤_, _<_}
+use Prim.Native.Nat.{ℕ, _+_, _*_, _≤_, _<_}
 use native.Mathlib.Numerals.{add-one}
 use lib.Dec.{eqb}
 use lib.ListN.{length, getD, take, drop, drop-of-length-le}
@@ -18,24 +18,24 @@ pub prefix-length : {A : Type 0} (l : List A) (n : ℕ) → n ≤ length l → n
 prefix-length l n h = sym (length-take-le n l h)
 
 -- the one place where a fingerprint of octets is one of the key: the key of a name is its octets
-pub print-key : (name : Octets) → printFrom 0 0 name ≡ printOf name
+pub print-key : (name : Octets) → printFrom 0 0 0 name ≡ printOf name
 unfolding key
 print-key name = refl
 
 -- names with different fingerprints are different
 pub print-differ : (a b : Octets) → (printOf a ≡ printOf b → ⊥) → sameName a b ≡ false
 unfolding sameName
-print-differ a b h = same-differ (printFrom 0 0) (key a) (key b) h
+print-differ a b h = same-differ (printFrom 0 0 0) (key a) (key b) h
 
 -- ---- loops over octets and over fingerprints
 
-pub print-step : (s : List ℕ) (i p q : ℕ) → i < length s → printFrom p q (drop i s) ≡ printFrom (p + getD s i 0) (q + (p + getD s i 0)) (drop (i + 1) s)
+pub print-step : (s : List ℕ) (i p q r : ℕ) → i < length s → printFrom p q r (drop i s) ≡ printFrom (p + getD s i 0) (q + (p + getD s i 0)) (r + (q + (p + getD s i 0))) (drop (i + 1) s)
 unfolding printFrom
-print-step s i p q h = rw (add-one, drop-cons s i 0 h)
+print-step s i p q r h = rw (add-one, drop-cons s i 0 h)
 
-pub print-end : (s : List ℕ) (i p q : ℕ) → length s ≤ i → printFrom p q (drop i s) ≡ q
+pub print-end : (s : List ℕ) (i p q r : ℕ) → length s ≤ i → printFrom p q r (drop i s) ≡ r * 16777216 + q
 unfolding printFrom
-print-end s i p q h = rw (drop-of-length-le s h)
+print-end s i p q r h = rw (drop-of-length-le s h)
 
 pub among-step : (x : ℕ) (p : List ℕ) (j : ℕ) → j < length p → among x (drop j p) ≡ (eqb (getD p j 0) x || among x (drop (j + 1) p))
 unfolding among

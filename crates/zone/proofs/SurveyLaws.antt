@@ -10,12 +10,15 @@ use lib.Dec.{ltb}
 use lib.ListN.{length, getD, set, take, drop, drop-of-length-le, length-map}
 use lib.Seq.{drop-cons, take-suc-set, take-set-le}
 use borrow.Author.Tests.{ltb-true, lt-ltb, le-ltb}
-use Rattle.hosts.specs.Count.{Octets}
+use Rattle.dname.specs.Name.{key, sameName}
+use Rattle.dname.proofs.NameLaws.{same-name-key, key-same-name}
+use Rattle.hosts.specs.Count.{Octets, member, distinct}
+use Rattle.hosts.proofs.CountLaws.{true≢false, member-here, member-on}
 use Rattle.hosts.specs.Addresses.{one}
 use Rattle.zone.specs.declared.entry.Entry.{Entry}
 use Rattle.zone.specs.declared.survey.Zone.{Zone}
-use Rattle.zone.specs.Meaning.{used, inOrder, keyOf, keys, allInOrder}
-use Rattle.zone.specs.Survey.{placeFrom}
+use Rattle.zone.specs.Meaning.{nameOf, used, inOrder, keyOf, keys, allInOrder}
+use Rattle.zone.specs.Survey.{named, placeFrom}
 use Rattle.zone.proofs.entry.Entry as place
 
 -- an array of structs has its length by way of a map
@@ -115,3 +118,51 @@ getD-any (x ∷ l) (suc i) d e h = getD-any l i d e (omega arith)
 pub one-few : (b : Bool) → one b ≤ 1
 one-few true = omega arith
 one-few false = omega arith
+
+-- ---- name by name
+
+module _ (es : List Entry) (d : Entry) (i : ℕ) (h : i < length es) where
+  abbrev one-place : Entry
+  one-place = getD es i d
+
+  keys-step : keys (drop i es) ≡ cond (used one-place) (keyOf one-place ∷ keys (drop (i + 1) es)) (keys (drop (i + 1) es))
+  unfolding keys
+  keys-step = rw (add-one, drop-cons es i d h)
+
+  pub named-hit : (n : Octets) → named n one-place ≡ true → member (key n) (keys (drop i es)) ≡ true
+  named-hit n t = ap (member (key n)) keys-step ∙ go (used one-place) (unfold named in t)
+    where
+      go : (b : Bool) → (b && sameName (nameOf (one-place .name)) n) ≡ true → member (key n) (cond b (keyOf one-place ∷ keys (drop (i + 1) es)) (keys (drop (i + 1) es))) ≡ true
+      go true s = member-here (key n) (keyOf one-place) (keys (drop (i + 1) es)) (same-name-key (nameOf (one-place .name)) n s)
+      go false s = absurd (true≢false (sym s))
+
+  pub named-miss : (n : Octets) → named n one-place ≡ false → member (key n) (keys (drop i es)) ≡ member (key n) (keys (drop (i + 1) es))
+  named-miss n t = ap (member (key n)) keys-step ∙ go (used one-place) (unfold named in t)
+    where
+      go : (b : Bool) → (b && sameName (nameOf (one-place .name)) n) ≡ false → member (key n) (cond b (keyOf one-place ∷ keys (drop (i + 1) es)) (keys (drop (i + 1) es))) ≡ member (key n) (keys (drop (i + 1) es))
+      go true s = member-on (key n) (keyOf one-place) (keys (drop (i + 1) es)) (λ e. true≢false (sym (key-same-name (nameOf (one-place .name)) n e) ∙ s))
+      go false s = refl
+
+  pub distinct-free : used one-place ≡ false → distinct (keys (drop i es)) ≡ distinct (keys (drop (i + 1) es))
+  distinct-free u = ap distinct keys-step ∙ rw u
+
+  pub distinct-twice : used one-place ≡ true → member (keyOf one-place) (keys (drop (i + 1) es)) ≡ true → distinct (keys (drop i es)) ≡ false
+  unfolding distinct
+  distinct-twice u m = ap distinct keys-step ∙ rw (u, m)
+
+  pub distinct-once : used one-place ≡ true → member (keyOf one-place) (keys (drop (i + 1) es)) ≡ false → distinct (keys (drop i es)) ≡ distinct (keys (drop (i + 1) es))
+  unfolding distinct
+  distinct-once u m = ap distinct keys-step ∙ rw (u, m)
+
+module _ (es : List Entry) (i : ℕ) (h : length es ≤ i) where
+  keys-end : keys (drop i es) ≡ []
+  unfolding keys
+  keys-end = rw (drop-of-length-le es h)
+
+  pub named-end : (k : Octets) → member k (keys (drop i es)) ≡ false
+  unfolding member
+  named-end k = rw keys-end
+
+  pub distinct-end : distinct (keys (drop i es)) ≡ true
+  unfolding distinct
+  distinct-end = rw keys-end

@@ -2,30 +2,33 @@
 use mathlib.Core.Path.{_≡_}
 use mathlib.Core.Bool.{Bool, true, false, cond, not, _&&_, _||_}
 use mathlib.Core.List.{List, [], _∷_}
-use Prim.Native.Nat.{ℕ, suc, _+_, _<_}
+use Prim.Native.Nat.{ℕ, suc, _+_, _*_, _<_}
 use lib.Dec.{eqb}
 use lib.ListN.{getD, set}
 use Rattle.octets.specs.Compare.{sameOctets}
 use Rattle.dname.specs.Name.{key, sameName}
 use Rattle.hosts.specs.Count.{Octets, distinct}
+use Rattle.hosts.specs.Addresses.{nothing}
+use Rattle.zone.specs.declared.name.Name.{Name}
+use Rattle.zone.specs.declared.entry.Address.{Address}
 use Rattle.zone.specs.declared.entry.Entry.{Entry}
 use Rattle.zone.specs.declared.entry.Seen.{Seen}
 use Rattle.zone.specs.declared.survey.Zone.{Zone}
 use Rattle.zone.specs.declared.survey.Survey.{Survey}
 use Rattle.zone.specs.declared.decide.Change.{Change}
-use Rattle.zone.specs.Zone.{Outcome}
-use Rattle.zone.specs.Meaning.{nameOf, used, inOrder, keyOf, keys, allInOrder, zoneOf, formed}
+use Rattle.zone.specs.Zone.{Host, Update, address, fits, Outcome}
+use Rattle.zone.specs.Meaning.{nameOf, hostOf, used, inOrder, keyOf, keys, allInOrder, zoneOf, formed, familyOf, addressOf}
 use Rattle.zone.specs.Promise.{numberOf}
 
 -- ---- fingerprints: equal names have equal ones
 
--- a running sum, and the sum of the running sums
-unfoldable pub printFrom : ℕ → ℕ → List ℕ → ℕ
-printFrom sum sums [] = sums
-printFrom sum sums (x ∷ s) = printFrom (sum + x) (sums + (sum + x)) s
+-- a running sum, the sum of those, and the sum of these in turn
+unfoldable pub printFrom : ℕ → ℕ → ℕ → List ℕ → ℕ
+printFrom sum sums third [] = third * 16777216 + sums
+printFrom sum sums third (x ∷ s) = printFrom (sum + x) (sums + (sum + x)) (third + (sums + (sum + x))) s
 
 abbrev pub printOf : Octets → ℕ
-printOf name = printFrom 0 0 (key name)
+printOf name = printFrom 0 0 0 (key name)
 
 unfoldable pub among : ℕ → List ℕ → Bool
 among x [] = false
@@ -69,3 +72,35 @@ pub record Decided (z : Zone) (right : Outcome) (w : Change) : Type 0 where
   pub answer-is : w .answer ≡ numberOf (right .answer)
   pub stays : ¬ (w .place < 64) → zoneOf z ≡ right .zone
   pub writes : w .place < 64 → (formed (changed z w) ≡ true) × (zoneOf (changed z w) ≡ right .zone)
+
+-- an entry r made of e: the same name and kind, in order, and what it means
+pub record Kept (e r : Entry) (h : Host) : Type 0 where
+  pub kind-is : r .kind ≡ e .kind
+  pub name-is : r .name ≡ e .name
+  pub order-is : inOrder r ≡ true
+  pub host-is : hostOf r ≡ h
+
+-- an entry made for a name
+pub record Fresh (n : Name) (h : Host) (r : Entry) : Type 0 where
+  pub kind-is : r .kind ≡ 2
+  pub name-is : r .name ≡ n
+  pub order-is : inOrder r ≡ true
+  pub host-is : hostOf r ≡ h
+
+-- the update u is about this family and address
+pub record About (family : ℕ) (a : Address) (u : Update) : Type 0 where
+  pub family-is : u .family ≡ familyOf family
+  pub address-is : u .address ≡ addressOf (familyOf family) a
+
+abbrev pub emptied : Host → Host
+emptied h = record { owner = h .owner; addresses = λ f. nothing }
+
+-- room for the address, the entry with it and without it, for every update that is about it
+pub record HasRoom (family : ℕ) (a : Address) (e : Entry) (r : Bool) : Type 0 where
+  pub room-is : (u : Update) → About family a u → r ≡ fits u (hostOf e)
+
+pub record Joined (family : ℕ) (a : Address) (e r : Entry) : Type 0 where
+  pub joins : (u : Update) → About family a u → fits u (hostOf e) ≡ true → Kept e r (address u true (hostOf e))
+
+pub record Parted (family : ℕ) (a : Address) (e r : Entry) : Type 0 where
+  pub parts : (u : Update) → About family a u → Kept e r (address u false (hostOf e))

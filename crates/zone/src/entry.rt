@@ -8,7 +8,7 @@ use hosts::set6::Set6;
 ghost use mathlib.Core.Path.{_≡_};
 ghost use Rattle.zone.specs.Zone.{heldBy, empty};
 ghost use Rattle.zone.specs.Meaning.{nameOf, hostOf, inOrder};
-ghost use Rattle.zone.specs.Survey.{printOf, Looked};
+ghost use Rattle.zone.specs.Survey.{printOf, named, Looked};
 
 #[repr(C)]
 pub struct Dhcid {
@@ -38,7 +38,7 @@ pub(crate) struct Seen {
     pub used: bool,
     pub inorder: bool,
     pub named: bool,
-    pub print: u32,
+    pub print: u64,
 }
 
 // Whether a used place has the form that it must have.
@@ -61,7 +61,7 @@ fn in_order(e: Entry) -> bool
 }
 
 // A look at one place, with a name that is wanted and its fingerprint.
-pub(crate) fn look(e: Entry, wanted: Name, print: u32) -> Seen
+pub(crate) fn look(e: Entry, wanted: Name, print: u64) -> Seen
     requires { ⌜ print ≡ printOf (nameOf wanted) ⌝ }
     ensures { λ r. ⌜ Looked (nameOf wanted) e r ⌝ }
 {
@@ -116,4 +116,15 @@ pub(crate) fn is_empty(e: Entry) -> bool
     }
     let v6 = e.v6;
     set6::empty6(v6)
+}
+
+// Whether the name stands there.
+pub(crate) fn is_named(e: Entry, n: Name) -> bool
+    ensures { λ r. ⌜ r ≡ named (nameOf n) e ⌝ }
+{
+    if e.kind == 0 {
+        return false;
+    }
+    let m = e.name;
+    name::same(m, n)
 }

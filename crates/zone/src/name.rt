@@ -39,7 +39,7 @@ pub(crate) fn same(a: Name, b: Name) -> bool
 }
 
 // Its fingerprint.
-pub(crate) fn print(n: Name) -> u32
+pub(crate) fn print(n: Name) -> u64
     ensures { λ r. ⌜ r ≡ printOf (nameOf n) ⌝ }
 {
     let o = n.octets;

@@ -8,6 +8,7 @@ ghost use mathlib.Core.Path.{_≡_};
 ghost use mathlib.Core.Bool.{cond, _&&_, not};
 ghost use lib.ListN.{drop};
 ghost use Prim.Native.Nat.{_≤_, _<_};
+ghost use Rattle.dname.specs.Name.{key};
 ghost use Rattle.hosts.specs.Addresses.{one};
 ghost use Rattle.hosts.specs.Count.{distinct, member};
 ghost use Rattle.zone.specs.Meaning.{nameOf, keys, formed};
@@ -52,7 +53,7 @@ pub(crate) fn survey_of(z: Zone, wanted: Name) -> Survey
     ensures { λ r. ⌜ Surveyed z (nameOf wanted) r ⌝ }
 {
     let print = name::print(wanted);
-    let mut prints = [0u32; 64];
+    let mut prints = [0u64; 64];
     let mut used: usize = 0;
     let mut inorder = true;
     let mut found: usize = 64;
@@ -78,4 +79,38 @@ pub(crate) fn survey_of(z: Zone, wanted: Name) -> Survey
         free: free,
         entry: e,
     }
+}
+
+// Whether the name stands at a place or behind it.
+fn named_from(z: Zone, n: Name, from: usize) -> bool
+    requires { ⌜ from ≤ 64 ⌝ }
+    ensures { λ r. ⌜ r ≡ member (key (nameOf n)) (keys (drop from (z .entries))) ⌝ }
+{
+    let mut i = from;
+    while i < 64 {
+        let e = z.entries[i];
+        if entry::is_named(e, n) {
+            return true;
+        }
+        i += 1;
+    }
+    false
+}
+
+// Whether no two names are equal, name by name: asked only where two fingerprints are equal.
+pub(crate) fn distinct_names(z: Zone) -> bool
+    ensures { λ r. ⌜ r ≡ distinct (keys (z .entries)) ⌝ }
+{
+    let mut i: usize = 0;
+    while i < 64 {
+        let e = z.entries[i];
+        i += 1;
+        if e.kind != 0 {
+            let n = e.name;
+            if named_from(z, n, i) {
+                return false;
+            }
+        }
+    }
+    true
 }

@@ -31,7 +31,7 @@ pub record Walk (es : List Entry) (n : List ℕ) (prints : List ℕ) (count : �
   pub few : count ≤ i
   pub all : length es ≡ 64
   pub room : length prints ≡ 64
-  pub printed : take count prints ++ map (printFrom 0 0) (keys (drop i es)) ≡ map (printFrom 0 0) (keys es)
+  pub printed : take count prints ++ map (printFrom 0 0 0) (keys (drop i es)) ≡ map (printFrom 0 0 0) (keys es)
   pub ordered : allInOrder es ≡ (inorder && allInOrder (drop i es))
   pub wanted : placeFrom (named n) 0 64 es ≡ placeFrom (named n) i found (drop i es)
   pub spare : placeFrom isFree 0 64 es ≡ placeFrom isFree i free (drop i es)
@@ -121,7 +121,7 @@ loop-again c =
       few = omega arith;
       all = w .all;
       room = simp length-set (w .room);
-      printed = print-put es blank (l .i) h (printFrom 0 0) (l .prints) (l .used) (k .result .print) (k .result .used) (c .before .before .before .one .result) (omega arith) (k .ensures .used-is) (k .ensures .print-is) one-is (w .printed);
+      printed = print-put es blank (l .i) h (printFrom 0 0 0) (l .prints) (l .used) (k .result .print) (k .result .used) (c .before .before .before .one .result) (omega arith) (k .ensures .used-is) (k .ensures .print-is) one-is (w .printed);
       ordered = order-step es blank (l .i) h _ (l .inorder) (k .result .inorder) (c .before .before .both .result) (k .ensures .order-is) (c .before .before .both .ensures) (w .ordered);
       wanted = w .wanted ∙ place-step es blank (l .i) h _ (l .found) (k .result .named) (c .before .choose .result) (k .ensures .named-is) (c .before .choose .ensures);
       spare = w .spare ∙ free-step es blank (l .i) h (l .free) (k .result .used) (c .choose2 .result) (k .ensures .used-is) (c .choose2 .ensures);
@@ -161,7 +161,7 @@ returns c =
     let h : length es ≤ l .i = omega arith in
     record {
       order-is = order-end es (l .i) h _ (l .inorder) (w .ordered);
-      clear = λ t. clear-distinct (printFrom 0 0) (keys es) (ap repeated (sym (print-end es (l .i) h (printFrom 0 0) _ (w .printed))) ∙ sym (c .before .before .repeats .ensures) ∙ not-true _ t);
+      clear = λ t. clear-distinct (printFrom 0 0 0) (keys es) (ap repeated (sym (print-end es (l .i) h (printFrom 0 0 0) _ (w .printed))) ∙ sym (c .before .before .repeats .ensures) ∙ not-true _ t);
       found-is = sym (w .wanted ∙ place-end es (l .i) h _ (l .found));
       free-is = sym (w .spare ∙ place-end es (l .i) h _ (l .free));
       entry-is = λ d f. ap (λ (m : ℕ). getD es m blank) (c .before .choose3 .ensures ∙ chosen-found (l .found) f) ∙ getD-any es (l .found) blank d (omega arith);
