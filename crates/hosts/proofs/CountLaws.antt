@@ -62,7 +62,7 @@ member-last (x ∷ l) a b = go (sameOctets x b) (sameOctets a b) (member-last l 
 
 -- ---- a list without repeats, by its head and its rest
 
-distinct-head : (x : Octets) (l : List Octets) → distinct (x ∷ l) ≡ true → member x l ≡ false
+pub distinct-head : (x : Octets) (l : List Octets) → distinct (x ∷ l) ≡ true → member x l ≡ false
 unfolding distinct
 distinct-head x l h = off (member x l) (and-left (not (member x l)) (distinct l) h)
   where
@@ -70,11 +70,11 @@ distinct-head x l h = off (member x l) (and-left (not (member x l)) (distinct l)
     off true e = absurd (true≢false (sym e))
     off false e = refl
 
-distinct-rest : (x : Octets) (l : List Octets) → distinct (x ∷ l) ≡ true → distinct l ≡ true
+pub distinct-rest : (x : Octets) (l : List Octets) → distinct (x ∷ l) ≡ true → distinct l ≡ true
 unfolding distinct
 distinct-rest x l h = and-right (not (member x l)) (distinct l) h
 
-distinct-cons : (x : Octets) (l : List Octets) → member x l ≡ false → distinct l ≡ true → distinct (x ∷ l) ≡ true
+pub distinct-cons : (x : Octets) (l : List Octets) → member x l ≡ false → distinct l ≡ true → distinct (x ∷ l) ≡ true
 unfolding distinct
 distinct-cons x l m d = rw (m, d)
 

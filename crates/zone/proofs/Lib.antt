@@ -2,3 +2,7 @@
 pub mod PrintLaws
 pub mod SurveyLaws
 pub mod HostLaws
+pub mod ZoneLaws
+pub mod PlaceLaws
+pub mod DecideLaws
+pub mod PromiseLaws

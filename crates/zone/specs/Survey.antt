@@ -4,7 +4,7 @@ use mathlib.Core.Bool.{Bool, true, false, cond, not, _&&_, _||_}
 use mathlib.Core.List.{List, [], _∷_}
 use Prim.Native.Nat.{ℕ, suc, _+_, _*_, _<_}
 use lib.Dec.{eqb}
-use lib.ListN.{getD, set}
+use lib.ListN.{length, getD, set}
 use Rattle.octets.specs.Compare.{sameOctets}
 use Rattle.dname.specs.Name.{key, sameName}
 use Rattle.hosts.specs.Count.{Octets, distinct}
@@ -16,9 +16,11 @@ use Rattle.zone.specs.declared.entry.Seen.{Seen}
 use Rattle.zone.specs.declared.survey.Zone.{Zone}
 use Rattle.zone.specs.declared.survey.Survey.{Survey}
 use Rattle.zone.specs.declared.decide.Change.{Change}
+use Rattle.zone.specs.Zone as rules
 use Rattle.zone.specs.Zone.{Host, Update, address, fits, Outcome}
 use Rattle.zone.specs.Meaning.{nameOf, hostOf, used, inOrder, keyOf, keys, allInOrder, zoneOf, formed, familyOf, addressOf}
-use Rattle.zone.specs.Promise.{numberOf}
+use Rattle.zone.specs.declared.request.Answered.{Answered}
+use Rattle.zone.specs.Promise.{numberOf, refusalOf}
 
 -- ---- fingerprints: equal names have equal ones
 
@@ -56,12 +58,20 @@ unfoldable pub placeFrom : {A : Type 0} → (A → Bool) → ℕ → ℕ → Lis
 placeFrom p i otherwise [] = otherwise
 placeFrom p i otherwise (x ∷ l) = placeFrom p (suc i) (cond (p x) i otherwise) l
 
-pub record Surveyed (z : Zone) (n : Octets) (s : Survey) : Type 0 where
+pub record Found (z : Zone) (n : Octets) (s : Survey) : Type 0 where
+  pub places-are : length (z .entries) ≡ 64
   pub order-is : s .inorder ≡ allInOrder (z .entries)
-  pub clear : s .clear ≡ true → distinct (keys (z .entries)) ≡ true
   pub found-is : s .found ≡ placeFrom (named n) 0 64 (z .entries)
   pub free-is : s .free ≡ placeFrom (λ (e : Entry). not (used e)) 0 64 (z .entries)
   pub entry-is : (d : Entry) → s .found < 64 → s .entry ≡ getD (z .entries) (s .found) d
+
+pub record Walked (z : Zone) (n : Octets) (s : Survey) : Type 0 where
+  pub found : Found z n s
+  pub clear : s .distinct ≡ true → distinct (keys (z .entries)) ≡ true
+
+pub record Surveyed (z : Zone) (n : Octets) (s : Survey) : Type 0 where
+  pub found : Found z n s
+  pub distinct-is : s .distinct ≡ distinct (keys (z .entries))
 
 -- ---- what a request comes to: an answer, and one place written, or none where it says 64
 
@@ -72,6 +82,20 @@ pub record Decided (z : Zone) (right : Outcome) (w : Change) : Type 0 where
   pub answer-is : w .answer ≡ numberOf (right .answer)
   pub stays : ¬ (w .place < 64) → zoneOf z ≡ right .zone
   pub writes : w .place < 64 → (formed (changed z w) ≡ true) × (zoneOf (changed z w) ≡ right .zone)
+
+-- a request decided on a survey: right for every zone in form that the survey is of
+pub record Decides (request : rules.Zone → Outcome) (n : Octets) (s : Survey) (w : Change) : Type 0 where
+  pub decides : (z : Zone) → length (z .entries) ≡ 64 → formed z ≡ true → Surveyed z n s → Decided z (request (zoneOf z)) w
+
+pub record Refuses (n : Octets) (family policy : ℕ) (s : Survey) (r : ℕ) : Type 0 where
+  pub refuses : (z : Zone) → Surveyed z n s → r ≡ refusalOf z n family policy
+
+-- and done
+pub record Finished (z : Zone) (w : Change) (r : Answered) : Type 0 where
+  pub refusal-is : r .refusal ≡ 0
+  pub answer-is : r .answer ≡ w .answer
+  pub kept : ¬ (w .place < 64) → r .zone ≡ z
+  pub wrote : w .place < 64 → r .zone ≡ changed z w
 
 -- an entry r made of e: the same name and kind, in order, and what it means
 pub record Kept (e r : Entry) (h : Host) : Type 0 where

@@ -12,19 +12,18 @@ ghost use Rattle.dname.specs.Name.{key};
 ghost use Rattle.hosts.specs.Addresses.{one};
 ghost use Rattle.hosts.specs.Count.{distinct, member};
 ghost use Rattle.zone.specs.Meaning.{nameOf, keys, formed};
-ghost use Rattle.zone.specs.Survey.{Surveyed};
+ghost use Rattle.zone.specs.Survey.{Walked, Surveyed};
 
 #[repr(C)]
 pub struct Zone {
     pub entries: [Entry; 64],
 }
 
-// inorder: every place is in order. clear: no two fingerprints are equal, so no two names are.
-// found: the place of the wanted name, and free: a free place, each 64 where there is none.
-// entry: what stands at the place found.
+// inorder: every place is in order. distinct: no two names are equal. found: the place of the wanted
+// name, and free: a free place, each 64 where there is none. entry: what stands at the place found.
 pub(crate) struct Survey {
     pub inorder: bool,
-    pub clear: bool,
+    pub distinct: bool,
     pub found: usize,
     pub free: usize,
     pub entry: Entry,
@@ -48,9 +47,10 @@ fn choose(b: bool, x: usize, y: usize) -> usize
     if b { x } else { y }
 }
 
-// The one function that reads every place.
-pub(crate) fn survey_of(z: Zone, wanted: Name) -> Survey
-    ensures { λ r. ⌜ Surveyed z (nameOf wanted) r ⌝ }
+// The one walk over all places. It tells names apart by their fingerprints: where two of those are
+// equal, two names may be.
+fn walk(z: Zone, wanted: Name) -> Survey
+    ensures { λ r. ⌜ Walked z (nameOf wanted) r ⌝ }
 {
     let print = name::print(wanted);
     let mut prints = [0u64; 64];
@@ -74,7 +74,7 @@ pub(crate) fn survey_of(z: Zone, wanted: Name) -> Survey
     let e = z.entries[at];
     Survey {
         inorder: inorder,
-        clear: !repeats,
+        distinct: !repeats,
         found: found,
         free: free,
         entry: e,
@@ -98,7 +98,7 @@ fn named_from(z: Zone, n: Name, from: usize) -> bool
 }
 
 // Whether no two names are equal, name by name: asked only where two fingerprints are equal.
-pub(crate) fn distinct_names(z: Zone) -> bool
+fn distinct_names(z: Zone) -> bool
     ensures { λ r. ⌜ r ≡ distinct (keys (z .entries)) ⌝ }
 {
     let mut i: usize = 0;
@@ -113,4 +113,18 @@ pub(crate) fn distinct_names(z: Zone) -> bool
         }
     }
     true
+}
+
+// What the places of a zone come to.
+pub(crate) fn survey_of(z: Zone, wanted: Name) -> Survey
+    ensures { λ r. ⌜ Surveyed z (nameOf wanted) r ⌝ }
+{
+    let s = walk(z, wanted);
+    if s.distinct {
+        return s;
+    }
+    let distinct = distinct_names(z);
+    let mut t = s;
+    t.distinct = distinct;
+    t
 }

@@ -4,40 +4,28 @@ use Rattle.zone.specs.Meaning.{inOrder}
 use borrow.Author.Needs.{needs}
 use Rattle.zone.proofs.entry.in_order.Statement.{statement}
 use Rattle.zone.proofs.entry.in_order.Tie as tie
-use Rattle.zone.proofs.entry.in_order.Reads as reads
-use Rattle.zone.proofs.entry.in_order.Lts as lts
-use Rattle.hosts.proofs.set4.sound4.Reads as sound4-reads
-use Rattle.hosts.proofs.set6.sound6.Reads as sound6-reads
-use Rattle.zone.proofs.name.is_full.Reads as is-full-reads
 
--- src/entry.rt:49:9
 returns : tie.Need-returns
 unfolding inOrder
 returns c = simp (lt-leb _ _ (c .if1 .taken))
 
--- src/entry.rt:52:9
 is-full-requires : tie.Need-is-full-requires
 is-full-requires c κs = search needs
 
--- src/entry.rt:53:9
 returns-2 : tie.Need-returns-2
 unfolding inOrder
 returns-2 c = simp (le-leb _ _ (c .before .before .before .if1 .left), sym (c .before .is-full .ensures) ∙ not-true _ (c .if2 .taken))
 
--- src/entry.rt:56:9
 sound4-requires : tie.Need-sound4-requires
 sound4-requires c κs = search needs
 
--- src/entry.rt:57:9
 returns-3 : tie.Need-returns-3
 unfolding inOrder
 returns-3 c = simp (le-leb _ _ (c .before .before .before .before .before .before .if1 .left), sym (c .before .before .before .before .is-full .ensures) ∙ not-false _ (c .before .before .before .if2 .left), sym (c .before .sound4 .ensures) ∙ not-true _ (c .if3 .taken))
 
--- src/entry.rt:60:5
 sound6-requires : tie.Need-sound6-requires
 sound6-requires c κs = search needs
 
--- src/entry.rt:45:1
 returns-4 : tie.Need-returns-4
 unfolding inOrder
 returns-4 c = simp (le-leb _ _ (c .before .before .before .before .before .before .before .before .if1 .left), sym (c .before .before .before .before .before .before .is-full .ensures) ∙ not-false _ (c .before .before .before .before .before .if2 .left), sym (c .before .before .before .sound4 .ensures) ∙ not-false _ (c .before .before .if3 .left)) (c .sound6 .ensures)

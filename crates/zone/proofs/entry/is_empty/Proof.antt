@@ -9,27 +9,19 @@ use Rattle.zone.specs.Meaning.{hostOf}
 use borrow.Author.Needs.{needs}
 use Rattle.zone.proofs.entry.is_empty.Statement.{statement}
 use Rattle.zone.proofs.entry.is_empty.Tie as tie
-use Rattle.zone.proofs.entry.is_empty.Reads as reads
-use Rattle.zone.proofs.entry.is_empty.Lts as lts
-use Rattle.hosts.proofs.set4.empty4.Reads as empty4-reads
-use Rattle.hosts.proofs.set6.empty6.Reads as empty6-reads
 
--- src/entry.rt:114:9
 empty4-requires : tie.Need-empty4-requires
 empty4-requires c κs = search needs
 
--- src/entry.rt:115:9
 returns : tie.Need-returns
 unfolding empty hostOf
 returns c =
     let s = c .before .before .before in
     ap (λ (b : Bool). b && eqb (length (list6 (s .args .e .v6))) 0) (sym (not-true _ (c .if1 .taken)) ∙ c .before .empty4 .ensures)
 
--- src/entry.rt:118:5
 empty6-requires : tie.Need-empty6-requires
 empty6-requires c κs = search needs
 
--- src/entry.rt:110:1
 returns-2 : tie.Need-returns-2
 unfolding empty hostOf
 returns-2 c =

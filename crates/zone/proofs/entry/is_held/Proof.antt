@@ -5,28 +5,20 @@ use Rattle.zone.specs.Meaning.{hostOf}
 use borrow.Author.Needs.{needs}
 use Rattle.zone.proofs.entry.is_held.Statement.{statement}
 use Rattle.zone.proofs.entry.is_held.Tie as tie
-use Rattle.zone.proofs.entry.is_held.Reads as reads
-use Rattle.zone.proofs.entry.is_held.Lts as lts
-use Rattle.octets.proofs.compare.same.Reads as same-reads
 
--- src/entry.rt:101:9
 returns : tie.Need-returns
 unfolding hostOf heldBy
 returns c = simp (eq-eqb _ _ (c .if1 .taken))
 
--- src/entry.rt:106:27
 slice-aggregate-same : tie.Need-slice-aggregate-same
 slice-aggregate-same c = search needs
 
--- src/entry.rt:106:31
 slice-aggregate-same-2 : tie.Need-slice-aggregate-same-2
 slice-aggregate-same-2 c = search needs
 
--- src/entry.rt:106:5
 same-requires : tie.Need-same-requires
 same-requires c κs = search needs
 
--- src/entry.rt:97:1
 returns-2 : tie.Need-returns-2
 unfolding hostOf heldBy
 returns-2 c = simp (ne-eqb _ _ (c .before .before .before .before .before .before .if1 .left)) (c .same .ensures)

@@ -5,20 +5,14 @@ use Rattle.zone.specs.Survey.{named}
 use borrow.Author.Needs.{needs}
 use Rattle.zone.proofs.entry.is_named.Statement.{statement}
 use Rattle.zone.proofs.entry.is_named.Tie as tie
-use Rattle.zone.proofs.entry.is_named.Reads as reads
-use Rattle.zone.proofs.entry.is_named.Lts as lts
-use Rattle.zone.proofs.name.same.Reads as same-reads
 
--- src/entry.rt:126:9
 returns : tie.Need-returns
 unfolding used named
 returns c = simp (eq-eqb _ _ (c .if1 .taken))
 
--- src/entry.rt:129:5
 same-requires : tie.Need-same-requires
 same-requires c κs = search needs
 
--- src/entry.rt:122:1
 returns-2 : tie.Need-returns-2
 unfolding used named
 returns-2 c = simp (ne-eqb _ _ (c .before .before .if1 .left)) (c .same .ensures)

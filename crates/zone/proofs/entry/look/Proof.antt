@@ -10,28 +10,19 @@ use Rattle.zone.proofs.PrintLaws.{print-differ}
 use borrow.Author.Needs.{needs}
 use Rattle.zone.proofs.entry.look.Statement.{statement}
 use Rattle.zone.proofs.entry.look.Tie as tie
-use Rattle.zone.proofs.entry.look.Reads as reads
-use Rattle.zone.proofs.entry.look.Lts as lts
-use Rattle.zone.proofs.entry.in_order.Reads as in-order-reads
-use Rattle.zone.proofs.name.print.Reads as print-reads
-use Rattle.zone.proofs.name.same.Reads as same-reads
 
--- src/entry.rt:70:9
 returns : tie.Need-returns
 unfolding used named
 returns c =
     let k = eq-eqb _ _ (c .if1 .taken) in
     record { used-is = rw k; order-is = rw k; named-is = rw k; print-is = λ t. let z : _≡_ {A = Bool} false true = sym (rw k) ∙ t in cc }
 
--- src/entry.rt:78:9
 print-requires : tie.Need-print-requires
 print-requires c κs = search needs
 
--- src/entry.rt:79:9
 in-order-requires : tie.Need-in-order-requires
 in-order-requires c κs = search needs
 
--- src/entry.rt:81:9
 returns-2 : tie.Need-returns-2
 unfolding used named
 returns-2 c =
@@ -41,11 +32,9 @@ returns-2 c =
     let d = print-differ (nameOf (s .args .e .name)) (nameOf (s .args .wanted)) (λ q. c .if2 .taken (p ∙ q ∙ sym (s .pre))) in
     record { used-is = rw k; order-is = rw k (c .before .in-order .ensures); named-is = rw (k, d); print-is = λ t. p }
 
--- src/entry.rt:88:9
 same-requires : tie.Need-same-requires
 same-requires c κs = search needs
 
--- src/entry.rt:65:1
 returns-3 : tie.Need-returns-3
 unfolding used named
 returns-3 c =

@@ -6,16 +6,10 @@ use Rattle.zone.proofs.HostLaws.{kept4, kept6, kept-to, set-nothing, so
 use borrow.Author.Needs.{needs}
 use Rattle.zone.proofs.host.clear_family.Statement.{statement}
 use Rattle.zone.proofs.host.clear_family.Tie as tie
-use Rattle.zone.proofs.host.clear_family.Reads as reads
-use Rattle.zone.proofs.host.clear_family.Lts as lts
-use Rattle.hosts.proofs.set4.none4.Reads as none4-reads
-use Rattle.hosts.proofs.set6.none6.Reads as none6-reads
 
--- src/host.rt:42:13
 none4-requires : tie.Need-none4-requires
 none4-requires c κs = search needs
 
--- src/host.rt:44:9
 returns : tie.Need-returns
 returns c =
     let s = c .before .before in
@@ -23,11 +17,9 @@ returns c =
     kept-to (kept4 (s .args .e) (s .pre) (c .none4 .result) nothing (sound-nothing _ _ (w .1) (w .0)) (set-nothing _ (w .0)))
     (ap (λ (f : Family). with f nothing (hostOf (s .args .e))) (sym (family-four (s .args .family) (c .before .if1 .taken))))
 
--- src/host.rt:46:9
 none6-requires : tie.Need-none6-requires
 none6-requires c κs = search needs
 
--- src/host.rt:36:1
 returns-2 : tie.Need-returns-2
 returns-2 c =
     let s = c .before .before in

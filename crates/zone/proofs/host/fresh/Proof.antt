@@ -2,21 +2,13 @@ use Rattle.zone.proofs.HostLaws.{bare-order, made}
 use borrow.Author.Needs.{needs}
 use Rattle.zone.proofs.host.fresh.Statement.{statement}
 use Rattle.zone.proofs.host.fresh.Tie as tie
-use Rattle.zone.proofs.host.fresh.Reads as reads
-use Rattle.zone.proofs.host.fresh.Lts as lts
-use Rattle.hosts.proofs.set4.none4.Reads as none4-reads
-use Rattle.hosts.proofs.set6.none6.Reads as none6-reads
-use Rattle.zone.proofs.host.join.Reads as join-reads
 
--- src/host.rt:137:9
 none4-requires : tie.Need-none4-requires
 none4-requires c κs = search needs
 
--- src/host.rt:138:9
 none6-requires : tie.Need-none6-requires
 none6-requires c κs = search needs
 
--- src/host.rt:146:5
 join-requires : tie.Need-join-requires
 join-requires c κs =
     let s = c .before .before in
@@ -24,7 +16,6 @@ join-requires c κs =
     let b = c .none6 .ensures in
     bare-order (s .args .n) (s .args .d) _ _ (a .0) (a .1) (b .0) (b .1) (s .pre)
 
--- src/host.rt:133:1
 returns : tie.Need-returns
 returns c =
     let s = c .before .before .before in

@@ -4,36 +4,24 @@ use Rattle.zone.proofs.HostLaws.{means4, means6, fits-by}
 use borrow.Author.Needs.{needs}
 use Rattle.zone.proofs.host.has_room.Statement.{statement}
 use Rattle.zone.proofs.host.has_room.Tie as tie
-use Rattle.zone.proofs.host.has_room.Reads as reads
-use Rattle.zone.proofs.host.has_room.Lts as lts
-use Rattle.hosts.proofs.set4.fits4.Reads as fits4-reads
-use Rattle.hosts.proofs.set6.fits6.Reads as fits6-reads
-use Rattle.zone.proofs.host.addr4.Reads as addr4-reads
-use Rattle.zone.proofs.host.addr6.Reads as addr6-reads
 
--- src/host.rt:84:13
 addr4-requires : tie.Need-addr4-requires
 addr4-requires c κs = search needs
 
--- src/host.rt:85:9
 fits4-requires : tie.Need-fits4-requires
 fits4-requires c κs = search needs
 
--- src/host.rt:85:9
 returns : tie.Need-returns
 returns c =
     let s = c .before .before .before .before in
     record { room-is = λ u b. c .fits4 .ensures ∙ sym (fits-by (s .args .e) u four _ (means4 b (c .before .before .before .if1 .taken) (c .before .addr4 .ensures))) }
 
--- src/host.rt:88:9
 addr6-requires : tie.Need-addr6-requires
 addr6-requires c κs = search needs
 
--- src/host.rt:89:5
 fits6-requires : tie.Need-fits6-requires
 fits6-requires c κs = search needs
 
--- src/host.rt:79:1
 returns-2 : tie.Need-returns-2
 returns-2 c =
     let s = c .before .before .before .before in

@@ -2,30 +2,21 @@ use Rattle.zone.proofs.HostLaws.{kept-same, kept-to, left-all, left-oth
 use borrow.Author.Needs.{needs}
 use Rattle.zone.proofs.host.leave.Statement.{statement}
 use Rattle.zone.proofs.host.leave.Tie as tie
-use Rattle.zone.proofs.host.leave.Reads as reads
-use Rattle.zone.proofs.host.leave.Lts as lts
-use Rattle.zone.proofs.host.clear_all.Reads as clear-all-reads
-use Rattle.zone.proofs.host.clear_family.Reads as clear-family-reads
 
--- src/host.rt:70:9
 returns : tie.Need-returns
 returns c =
     let s = c .before in
     kept-to (kept-same (s .args .e) (s .pre)) (left-all _ _ _ (c .if1 .taken))
 
--- src/host.rt:73:9
 clear-family-requires : tie.Need-clear-family-requires
 clear-family-requires c κs = search needs
 
--- src/host.rt:73:9
 returns-2 : tie.Need-returns-2
 returns-2 c = kept-to (c .clear-family .ensures) (left-others _ _ _ (c .before .if2 .taken))
 
--- src/host.rt:75:5
 clear-all-requires : tie.Need-clear-all-requires
 clear-all-requires c κs = search needs
 
--- src/host.rt:65:1
 returns-3 : tie.Need-returns-3
 returns-3 c = kept-to (c .clear-all .ensures) (left-none _ _ _ (c .before .before .if1 .left) (c .before .if2 .left))
 

@@ -6,58 +6,43 @@ use Rattle.zone.proofs.PrintLaws.{prefix-length}
 use borrow.Author.Needs.{needs}
 use Rattle.zone.proofs.name.is_full.Statement.{statement}
 use Rattle.zone.proofs.name.is_full.Tie as tie
-use Rattle.zone.proofs.name.is_full.Reads as reads
-use Rattle.zone.proofs.name.is_full.Lts as lts
-use Rattle.dname.proofs.shape_of.Reads as shape-of-reads
 
--- src/name.rt:20:15
 cast-len : tie.Need-cast-len
 cast-len c = search needs
 
--- src/name.rt:21:33
 array-share-prefix-o : tie.Need-array-share-prefix-o
 array-share-prefix-o c = let h : length (c .before .before .args .n .octets) ≡ 255 = search needs in omega arith
 
--- src/name.rt:21:33
 slice-aggregate-shape-of : tie.Need-slice-aggregate-shape-of
 slice-aggregate-shape-of c = let h : length (c .before .before .before .args .n .octets) ≡ 255 = search needs in prefix-length _ _ (omega arith)
 
--- src/name.rt:21:9
 shape-of-requires : tie.Need-shape-of-requires
 shape-of-requires c κs = search needs
 
--- src/name.rt:23:25
 enum-told : tie.Need-enum-told
 enum-told c = search needs
 
--- src/name.rt:24:24
 enum-told-2 : tie.Need-enum-told-2
 enum-told-2 c = search needs
 
--- src/name.rt:25:27
 enum-told-3 : tie.Need-enum-told-3
 enum-told-3 c = search needs
 
--- src/name.rt:26:29
 enum-told-4 : tie.Need-enum-told-4
 enum-told-4 c = search needs
 
--- src/name.rt:16:1
 returns : tie.Need-returns
 unfolding isFull
 returns c = sym (ap full (sym (c .before .before .shape-of .ensures) ∙ c .enum-told .given .1))
 
--- src/name.rt:16:1
 returns-2 : tie.Need-returns-2
 unfolding isFull
 returns-2 c = sym (ap full (sym (c .before .before .shape-of .ensures) ∙ c .enum-told2 .given .1))
 
--- src/name.rt:16:1
 returns-3 : tie.Need-returns-3
 unfolding isFull
 returns-3 c = sym (ap full (sym (c .before .before .shape-of .ensures) ∙ c .enum-told3 .given .1))
 
--- src/name.rt:16:1
 returns-4 : tie.Need-returns-4
 unfolding isFull
 returns-4 c = sym (ap full (sym (c .before .before .shape-of .ensures) ∙ c .enum-told4 .given .1))

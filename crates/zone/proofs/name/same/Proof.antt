@@ -5,39 +5,28 @@ use Rattle.zone.proofs.PrintLaws.{prefix-length}
 use borrow.Author.Needs.{needs}
 use Rattle.zone.proofs.name.same.Statement.{statement}
 use Rattle.zone.proofs.name.same.Tie as tie
-use Rattle.zone.proofs.name.same.Reads as reads
-use Rattle.zone.proofs.name.same.Lts as lts
-use Rattle.dname.proofs.same_name.Reads as same-name-reads
 
--- src/name.rt:36:13
 cast-n : tie.Need-cast-n
 cast-n c = search needs
 
--- src/name.rt:37:13
 cast-m : tie.Need-cast-m
 cast-m c = search needs
 
--- src/name.rt:38:22
 array-share-prefix-o : tie.Need-array-share-prefix-o
 array-share-prefix-o c = let h : length (c .before .before .before .before .args .a .octets) ≡ 255 = search needs in omega arith
 
--- src/name.rt:38:22
 slice-aggregate-same-name : tie.Need-slice-aggregate-same-name
 slice-aggregate-same-name c = let h : length (c .before .before .before .before .before .args .a .octets) ≡ 255 = search needs in prefix-length _ _ (omega arith)
 
--- src/name.rt:38:31
 array-share-prefix-p : tie.Need-array-share-prefix-p
 array-share-prefix-p c = let h : length (c .before .before .before .before .before .args .b .octets) ≡ 255 = search needs in omega arith
 
--- src/name.rt:38:31
 slice-aggregate-same-name-2 : tie.Need-slice-aggregate-same-name-2
 slice-aggregate-same-name-2 c = let h : length (c .before .before .before .before .before .before .args .b .octets) ≡ 255 = search needs in prefix-length _ _ (omega arith)
 
--- src/name.rt:38:5
 same-name-requires : tie.Need-same-name-requires
 same-name-requires c κs = search needs
 
--- src/name.rt:31:1
 returns : tie.Need-returns
 returns c = search needs
 

@@ -7,9 +7,6 @@ use Rattle.zone.specs.Survey.{printFrom}
 use Rattle.zone.proofs.PrintLaws.{print-step, print-end}
 use Rattle.zone.proofs.print.print.Statement.{statement}
 use Rattle.zone.proofs.print.print.Tie as tie
-use Rattle.zone.proofs.print.print.Reads as reads
-use Rattle.zone.proofs.print.print.Lts as lts
-use Rattle.zone.proofs.print.wide.Reads as wide-reads
 
 abbrev Inv-loop : tie.InvT-loop
 Inv-loop s sum₀ sums₀ third₀ i₀ sum sums third i = (i ≤ length s) × (sum ≤ 255 * i) × (sums ≤ 65025 * i) × (third ≤ 16581375 * i) × (printFrom 0 0 0 s ≡ printFrom sum sums third (drop i s))
@@ -17,39 +14,30 @@ Inv-loop s sum₀ sums₀ third₀ i₀ sum sums third i = (i ≤ length s) × (
 abbrev μ-loop : tie.MeasureT-loop
 μ-loop s sum₀ sums₀ third₀ i₀ sum sums third i = length s - i
 
--- src/print.rt:22:5
 loop-holds : tie.Need-loop-holds Inv-loop μ-loop
 loop-holds c = (search needs, search needs, search needs, search needs, refl)
 
--- src/print.rt:23:26
 shared-slice-read-wide : tie.Need-shared-slice-read-wide Inv-loop μ-loop
 shared-slice-read-wide c = omega arith
 
--- src/print.rt:23:21
 wide-requires : tie.Need-wide-requires Inv-loop μ-loop
 wide-requires c κs = search needs
 
--- src/print.rt:23:15
 add-sum : tie.Need-add-sum Inv-loop μ-loop
 add-sum c = omega arith
 
--- src/print.rt:24:16
 add-sums : tie.Need-add-sums Inv-loop μ-loop
 add-sums c = omega arith
 
--- src/print.rt:25:17
 add-third : tie.Need-add-third Inv-loop μ-loop
 add-third c = omega arith
 
--- src/print.rt:26:9
 add-i : tie.Need-add-i Inv-loop μ-loop
 add-i c = omega arith
 
--- src/print.rt:22:5
 loop-less : tie.Need-loop-less Inv-loop μ-loop
 loop-less c = omega arith
 
--- src/print.rt:22:5
 loop-again : tie.Need-loop-again Inv-loop μ-loop
 loop-again c =
     let s = c .before .before .before .before .before .args .s .now in
@@ -58,15 +46,12 @@ loop-again c =
     let h : printFrom 0 0 0 s ≡ printFrom (l .sum + x) (l .sums + (l .sum + x)) (l .third + (l .sums + (l .sum + x))) (drop (l .i + 1) s) = l .inv .4 ∙ print-step s (l .i) (l .sum) (l .sums) (l .third) (omega arith) in
     (omega arith, omega arith, omega arith, omega arith, h ∙ ap (λ (y : ℕ). printFrom (l .sum + y) (l .sums + (l .sum + y)) (l .third + (l .sums + (l .sum + y))) (drop (l .i + 1) s)) (sym (c .wide .ensures .0)))
 
--- src/print.rt:28:5
 mul-result : tie.Need-mul-result Inv-loop μ-loop
 mul-result c = omega arith
 
--- src/print.rt:28:5
 add-result : tie.Need-add-result Inv-loop μ-loop
 add-result c = omega arith
 
--- src/print.rt:14:1
 returns : tie.Need-returns Inv-loop μ-loop
 returns c =
     let l = c .before .loop in

@@ -10,9 +10,6 @@ use Rattle.zone.specs.Meaning.{used, keys}
 use Rattle.zone.proofs.SurveyLaws.{blank, places, distinct-free, distinct-twice, distinct-once, distinct-end}
 use Rattle.zone.proofs.survey.distinct_names.Statement.{statement}
 use Rattle.zone.proofs.survey.distinct_names.Tie as tie
-use Rattle.zone.proofs.survey.distinct_names.Reads as reads
-use Rattle.zone.proofs.survey.distinct_names.Lts as lts
-use Rattle.zone.proofs.survey.named_from.Reads as named-from-reads
 
 abbrev Inv-loop : tie.InvT-loop
 Inv-loop z i₀ i = (i ≤ 64) × (length (z .entries) ≡ 64) × (distinct (keys (z .entries)) ≡ distinct (keys (drop i (z .entries))))
@@ -20,27 +17,21 @@ Inv-loop z i₀ i = (i ≤ 64) × (length (z .entries) ≡ 64) × (distinct (key
 abbrev μ-loop : tie.MeasureT-loop
 μ-loop z i₀ i = 64 - i
 
--- src/survey.rt:105:5
 loop-holds : tie.Need-loop-holds Inv-loop μ-loop
 loop-holds c = (omega arith, places (c .args .t1) (c .good .0 .1 .1 .0 .1 .0 .1), refl)
 
--- src/survey.rt:106:17
 mul-e : tie.Need-mul-e Inv-loop μ-loop
 mul-e c = omega arith
 
--- src/survey.rt:106:17
 element-copy-out-e : tie.Need-element-copy-out-e Inv-loop μ-loop
 element-copy-out-e c = omega arith
 
--- src/survey.rt:107:9
 add-i : tie.Need-add-i Inv-loop μ-loop
 add-i c = omega arith
 
--- src/survey.rt:110:16
 named-from-requires : tie.Need-named-from-requires Inv-loop μ-loop
 named-from-requires c κs = omega arith
 
--- src/survey.rt:111:17
 returns : tie.Need-returns Inv-loop μ-loop
 unfolding used
 returns c =
@@ -49,11 +40,9 @@ returns c =
     let k = ap not (ne-eqb _ _ (c .before .before .before .if1 .taken)) in
     sym (l .inv .2 ∙ distinct-twice (s .t1 .entries) blank (l .i) (omega arith) k (sym (c .before .named-from .ensures) ∙ c .if2 .taken))
 
--- src/survey.rt:105:5
 loop-less : tie.Need-loop-less Inv-loop μ-loop
 loop-less c = omega arith
 
--- src/survey.rt:105:5
 loop-again : tie.Need-loop-again Inv-loop μ-loop
 unfolding used
 loop-again c =
@@ -62,11 +51,9 @@ loop-again c =
     let k = ap not (ne-eqb _ _ (c .before .before .before .if1 .taken)) in
     (omega arith, l .inv .1, l .inv .2 ∙ distinct-once (s .t1 .entries) blank (l .i) (omega arith) k (sym (c .before .named-from .ensures) ∙ c .if2 .left))
 
--- src/survey.rt:105:5
 loop-less-2 : tie.Need-loop-less-2 Inv-loop μ-loop
 loop-less-2 c = omega arith
 
--- src/survey.rt:105:5
 loop-again-2 : tie.Need-loop-again-2 Inv-loop μ-loop
 unfolding used
 loop-again-2 c =
@@ -74,7 +61,6 @@ loop-again-2 c =
     let l = c .before .before .before .before .loop in
     (omega arith, l .inv .1, l .inv .2 ∙ distinct-free (s .t1 .entries) blank (l .i) (omega arith) (ap not (eq-eqb _ _ (c .if1 .left))))
 
--- src/survey.rt:101:1
 returns-2 : tie.Need-returns-2 Inv-loop μ-loop
 returns-2 c =
     let s = c .before .before .args in

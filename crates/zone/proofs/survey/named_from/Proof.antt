@@ -9,9 +9,6 @@ use Rattle.zone.specs.Meaning.{nameOf, keys}
 use Rattle.zone.proofs.SurveyLaws.{blank, places, named-hit, named-miss, named-end}
 use Rattle.zone.proofs.survey.named_from.Statement.{statement}
 use Rattle.zone.proofs.survey.named_from.Tie as tie
-use Rattle.zone.proofs.survey.named_from.Reads as reads
-use Rattle.zone.proofs.survey.named_from.Lts as lts
-use Rattle.zone.proofs.entry.is_named.Reads as is-named-reads
 
 abbrev Inv-loop : tie.InvT-loop
 Inv-loop n from z i₀ i = (length (z .entries) ≡ 64) × (member (key (nameOf n)) (keys (drop from (z .entries))) ≡ member (key (nameOf n)) (keys (drop i (z .entries))))
@@ -19,45 +16,36 @@ Inv-loop n from z i₀ i = (length (z .entries) ≡ 64) × (member (key (nameOf 
 abbrev μ-loop : tie.MeasureT-loop
 μ-loop n from z i₀ i = 64 - i
 
--- src/survey.rt:90:5
 loop-holds : tie.Need-loop-holds Inv-loop μ-loop
 loop-holds c = (places (c .args .t1) (c .good .0 .1 .1 .0 .1 .0 .1), refl)
 
--- src/survey.rt:91:17
 mul-e : tie.Need-mul-e Inv-loop μ-loop
 mul-e c = omega arith
 
--- src/survey.rt:91:17
 element-copy-out-e : tie.Need-element-copy-out-e Inv-loop μ-loop
 element-copy-out-e c = omega arith
 
--- src/survey.rt:92:12
 is-named-requires : tie.Need-is-named-requires Inv-loop μ-loop
 is-named-requires c κs = search needs
 
--- src/survey.rt:93:13
 returns : tie.Need-returns Inv-loop μ-loop
 returns c =
     let s = c .before .before .before .before .before .args in
     let l = c .before .before .before .before .loop in
     sym (l .inv .1 ∙ named-hit (s .t1 .entries) blank (l .i) (omega arith) (nameOf (s .n)) (sym (c .before .is-named .ensures) ∙ c .if1 .taken))
 
--- src/survey.rt:95:9
 add-i : tie.Need-add-i Inv-loop μ-loop
 add-i c = omega arith
 
--- src/survey.rt:90:5
 loop-less : tie.Need-loop-less Inv-loop μ-loop
 loop-less c = omega arith
 
--- src/survey.rt:90:5
 loop-again : tie.Need-loop-again Inv-loop μ-loop
 loop-again c =
     let s = c .before .before .before .before .before .args in
     let l = c .before .before .before .before .loop in
     (l .inv .0, l .inv .1 ∙ named-miss (s .t1 .entries) blank (l .i) (omega arith) (nameOf (s .n)) (sym (c .before .is-named .ensures) ∙ c .if1 .left))
 
--- src/survey.rt:85:1
 returns-2 : tie.Need-returns-2 Inv-loop μ-loop
 returns-2 c =
     let s = c .before .before .args in
