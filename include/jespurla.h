@@ -116,6 +116,111 @@ jespurla_server_list_answer jespurla_server_list(jespurla_server_list_state list
                                                  jespurla_moment clock,
                                                  const uint8_t *area, size_t area_length);
 
+/*
+ * A DNS zone by value. Every struct below is made of octets alone, so it has no gaps: an entry has 374
+ * octets and a zone 23,936.
+ */
+
+/* A domain name as it stands in a message; octets from length on are not looked at. */
+typedef struct {
+    uint8_t octets[255];
+    uint8_t length;
+} jespurla_name;
+
+/* A DHCID (RFC 4701), opaque here. */
+typedef struct {
+    uint8_t octets[35];
+} jespurla_dhcid;
+
+/* An address of family 4 (its first 4 octets; the others are not looked at) or 6 (all 16). */
+typedef struct {
+    uint8_t octets[16];
+} jespurla_address;
+
+/* At most four addresses of a family, no two equal; items from count on are not looked at. */
+typedef struct {
+    uint8_t items[4][4];
+    uint8_t count;
+} jespurla_set4;
+
+typedef struct {
+    uint8_t items[4][16];
+    uint8_t count;
+} jespurla_set6;
+
+#define JESPURLA_FREE 0   /* a free place: nothing else in the entry is looked at */
+#define JESPURLA_STATIC 1 /* a static name: its dhcid is not looked at */
+#define JESPURLA_HELD 2   /* a name held by its dhcid */
+
+typedef struct {
+    uint8_t kind;
+    jespurla_name name;
+    jespurla_dhcid dhcid;
+    jespurla_set4 v4;
+    jespurla_set6 v6;
+} jespurla_entry;
+
+/* A zone of zeros is empty. Which place a name has does not matter, and freed places serve again. */
+typedef struct {
+    jespurla_entry entries[64];
+} jespurla_zone;
+
+/* Families and policies. */
+#define JESPURLA_FAMILY_4 4
+#define JESPURLA_FAMILY_6 6
+#define JESPURLA_KEEP_OTHERS 0   /* other addresses stay */
+#define JESPURLA_ONE_OF_FAMILY 1 /* no other address of this family stays */
+#define JESPURLA_ONLY_THIS 2     /* no other address stays */
+
+/* The answers to a request: the response codes of RFC 2136, and one of our own. */
+#define JESPURLA_NOERROR 0
+#define JESPURLA_NXDOMAIN 3
+#define JESPURLA_YXDOMAIN 6
+#define JESPURLA_NXRRSET 8
+#define JESPURLA_NO_ROOM 256
+
+typedef struct {
+    uint32_t refusal;
+    uint32_t answer;
+    jespurla_zone zone;
+} jespurla_answered;
+
+/*
+ * The requests of RFC 4703, each tested and done at once.
+ *
+ * Refusals of each, the first that applies: 17 the zone breaks its form (a kind not listed, a name
+ * that is not full, two equal names, a count over 4, two equal addresses of a name); 18 a family or
+ * policy not listed; 11 a name that is not full. A refused request returns the very zone that it was
+ * handed, and answer 0. Any other returns the answer of the rules and a zone of good form with the
+ * names, owners and addresses that the rules give; a request that doesn't succeed changes nothing.
+ */
+
+/* The refusal that a request with these would get, 0 for none. Where there is no policy, pass 0. */
+uint32_t jespurla_zone_check(jespurla_zone zone, jespurla_name name, uint8_t family, uint8_t policy);
+
+/* A: adds an absent name with the DHCID and the address. YXDOMAIN where the name is there; NO_ROOM
+ * where it would be the 65th. */
+jespurla_answered jespurla_request_a(jespurla_zone zone, jespurla_name name, jespurla_dhcid dhcid,
+                                     uint8_t family, jespurla_address address);
+
+/* B: at a name that the DHCID holds, deletes by policy, then adds the address unless present.
+ * NXDOMAIN where the name is absent; NXRRSET where it is static or held by another; NO_ROOM where
+ * the address would be the fifth of its family. */
+jespurla_answered jespurla_request_b(jespurla_zone zone, jespurla_name name, jespurla_dhcid dhcid,
+                                     uint8_t family, jespurla_address address, uint8_t policy);
+
+/* The first remove request: at a name that the DHCID holds, deletes the address if it is there.
+ * NXRRSET where the DHCID does not hold the name. */
+jespurla_answered jespurla_request_remove_address(jespurla_zone zone, jespurla_name name,
+                                                  jespurla_dhcid dhcid, uint8_t family,
+                                                  jespurla_address address);
+
+/* The second remove request: deletes a name that the DHCID holds and that has no address. NXRRSET
+ * where the DHCID does not hold the name or an address is left. */
+jespurla_answered jespurla_request_remove_name(jespurla_zone zone, jespurla_name name,
+                                               jespurla_dhcid dhcid, uint8_t family,
+                                               jespurla_address address);
+
 #ifdef __cplusplus
 }
 #endif
