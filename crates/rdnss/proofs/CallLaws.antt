@@ -27,6 +27,10 @@ module _ (clock : Moment) (l : List Server) (v : List ℕ) where
   ignored h = rw h
 
   module _ (h : acts v ≡ true) where
+    pub acting : optionApplied clock l v ≡ namedAll servers (eqb (lifetimeOf v .0) 0) (expiryAfter clock (lifetimeOf v)) (addresses v) l
+    unfolding optionApplied
+    acting = rw h
+
     pub withdraws : lifetimeOf v .0 ≡ 0 → optionApplied clock l v ≡ foldl (λ t a. removed servers a t) l (addresses v)
     unfolding optionApplied
     withdraws z = rw (h, eq-eqb (lifetimeOf v .0) 0 z) (withdrawn-all servers (expiryAfter clock (lifetimeOf v)) (addresses v) l)

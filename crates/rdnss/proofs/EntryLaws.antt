@@ -16,6 +16,9 @@ module _ {A : Type 0} (P : A → Type 0) where
   cond-case true f g = f refl
   cond-case false f g = g refl
 
+pub and-both : (a b : Bool) → a ≡ true → b ≡ true → (a && b) ≡ true
+and-both a b h k = rw (h, k)
+
 pub and-left : (a b : Bool) → (a && b) ≡ true → a ≡ true
 and-left true b h = refl
 and-left false b h = h
