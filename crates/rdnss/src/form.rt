@@ -17,7 +17,7 @@ fn is_orderly(l: ServerList) -> bool
     let n = l.count;
     let mut i: usize = 0;
     while i < n {
-        let e = list::entry_at(l, i);
+        let e = l.entries[i];
         i += 1;
         if !clock::is_expiry(e.expiry) {
             return false;

@@ -6,12 +6,13 @@ use borrow.Author.Tests.{not-true, not-false}
 use lib.ListN.{length, drop, length-map}
 use lib.Seq.{length-take-le}
 use Rattle.rdnss.specs.ServerList.{held}
+use Rattle.rdnss.proofs.PackLaws.{held-at}
 use Rattle.rdnss.proofs.CallLaws.{orderly, no-expiry, twice, once, orderly-end}
 use Rattle.rdnss.proofs.form.is_orderly.Statement.{statement}
 use Rattle.rdnss.proofs.form.is_orderly.Tie as tie
 
 abbrev Inv-loop : tie.InvT-loop
-Inv-loop l n i₀ i = (length (held l) ≡ n) × (i ≤ n) × (orderly (held l) ≡ orderly (drop i (held l)))
+Inv-loop l n i₀ i = (length (l .entries) ≡ 8) × (length (held l) ≡ n) × (i ≤ n) × (orderly (held l) ≡ orderly (drop i (held l)))
 
 abbrev μ-loop : tie.MeasureT-loop
 μ-loop l n i₀ i = n - i
@@ -19,10 +20,13 @@ abbrev μ-loop : tie.MeasureT-loop
 loop-holds : tie.Need-loop-holds Inv-loop μ-loop
 loop-holds c =
     let g = simp length-map at (c .good .0 .1 .1 .0 .1 .0 .1) in
-    (length-take-le (c .args .l .count) (c .args .l .entries) (omega arith), omega arith, refl)
+    (g, length-take-le (c .args .t1 .count) (c .args .t1 .entries) (omega arith), omega arith, refl)
 
-entry-at-requires : tie.Need-entry-at-requires Inv-loop μ-loop
-entry-at-requires c κs = search needs
+mul-e : tie.Need-mul-e Inv-loop μ-loop
+mul-e c = search needs
+
+element-copy-out-e : tie.Need-element-copy-out-e Inv-loop μ-loop
+element-copy-out-e c = search needs
 
 add-i : tie.Need-add-i Inv-loop μ-loop
 add-i c = search needs
@@ -32,35 +36,33 @@ is-expiry-requires c κs = search needs
 
 returns : tie.Need-returns Inv-loop μ-loop
 returns c =
-    let h = held (c .before .before .before .before .before .args .l) in
+    let x = c .before .before .before .before .before .args .t1 in
     let l = c .before .before .before .before .loop in
-    let e = c .before .before .entry-at in
-    sym (l .inv .2 ∙ no-expiry h (l .i) (omega arith) (e .result) (e .ensures) (sym (c .before .is-expiry .ensures) ∙ not-true _ (c .if1 .taken)))
+    sym (l .inv .3 ∙ no-expiry (held x) (l .i) (omega arith) _ (held-at x (l .i) _ (omega arith) (omega arith)) (sym (c .before .is-expiry .ensures) ∙ not-true _ (c .if1 .taken)))
 
 find-requires : tie.Need-find-requires Inv-loop μ-loop
 find-requires c κs = search needs
 
 returns-2 : tie.Need-returns-2 Inv-loop μ-loop
 returns-2 c =
-    let h = held (c .before .before .before .before .before .before .before .args .l) in
+    let x = c .before .before .before .before .before .before .before .args .t1 in
     let l = c .before .before .before .before .before .before .loop in
-    let e = c .before .before .before .before .entry-at in
-    sym (l .inv .2 ∙ twice h (l .i) (omega arith) (e .result) (e .ensures) (sym (c .before .before .before .is-expiry .ensures) ∙ not-false _ (c .before .before .if1 .left)) (c .before .find .result) (c .before .find .ensures) (omega arith))
+    sym (l .inv .3 ∙ twice (held x) (l .i) (omega arith) _ (held-at x (l .i) _ (omega arith) (omega arith)) (sym (c .before .before .before .is-expiry .ensures) ∙ not-false _ (c .before .before .if1 .left)) (c .before .find .result) (c .before .find .ensures) (omega arith))
 
 loop-less : tie.Need-loop-less Inv-loop μ-loop
 loop-less c = search needs
 
 loop-again : tie.Need-loop-again Inv-loop μ-loop
 loop-again c =
-    let h = held (c .before .before .before .before .before .before .before .args .l) in
+    let x = c .before .before .before .before .before .before .before .args .t1 in
     let l = c .before .before .before .before .before .before .loop in
-    let e = c .before .before .before .before .entry-at in
-    (l .inv .0, omega arith, l .inv .2 ∙ once h (l .i) (omega arith) (e .result) (e .ensures) (sym (c .before .before .before .is-expiry .ensures) ∙ not-false _ (c .before .before .if1 .left)) (c .before .find .result) (c .before .find .ensures) (omega arith))
+    (l .inv .0, l .inv .1, omega arith, l .inv .3 ∙ once (held x) (l .i) (omega arith) _ (held-at x (l .i) _ (omega arith) (omega arith)) (sym (c .before .before .before .is-expiry .ensures) ∙ not-false _ (c .before .before .if1 .left)) (c .before .find .result) (c .before .find .ensures) (omega arith))
 
 returns-3 : tie.Need-returns-3 Inv-loop μ-loop
 returns-3 c =
+    let x = c .before .before .args .t1 in
     let l = c .before .loop in
-    sym (l .inv .2 ∙ orderly-end (held (c .before .before .args .l)) (l .i) (omega arith))
+    sym (l .inv .3 ∙ orderly-end (held x) (l .i) (omega arith))
 
 pub is-orderly-spec : {M : Type 1} → statement M
 is-orderly-spec =
@@ -69,7 +71,8 @@ is-orderly-spec =
     Inv-loop
     μ-loop
     loop-holds
-    entry-at-requires
+    mul-e
+    element-copy-out-e
     add-i
     is-expiry-requires
     returns
