@@ -102,12 +102,12 @@ pub(crate) fn insert_at(l: ServerList, k: usize, e: Server) -> ServerList
     let n = l.count;
     let mut m = l;
     let mut carried = e;
-    let mut i = k;
-    while i < n {
-        let next = m.entries[i];
-        m.entries[i] = carried;
+    let mut at = k;
+    while at < n {
+        let next = m.entries[at];
+        m.entries[at] = carried;
         carried = next;
-        i += 1;
+        at += 1;
     }
     m.entries[n] = carried;
     m.count = n + 1;
