@@ -1,8 +1,7 @@
 -- The laws of one option's keys: what they leave sound, absent and as it was. Assumes nothing.
 use mathlib.Core.Path.{_≡_, refl, ap, sym, _∙_}
 use mathlib.Core.Bool.{Bool, true, false, not, cond, _&&_, _||_, or-true, false≢true}
-use mathlib.Core.List.{List, [], _∷_, _++_, map, foldl}
-use Prim.Native.Nat.{ℕ, _≤_}
+use mathlib.Core.List.{List, [], _∷_, map, foldl}
 use lib.Dec.{ltb}
 use lib.ListN.{length, length-map}
 use native.Mathlib.Omega.{arith}

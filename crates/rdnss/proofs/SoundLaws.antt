@@ -1,12 +1,11 @@
 -- The laws by which a list keeps what holds of its entries. Assumes nothing.
-use mathlib.Core.Path.{_≡_, refl, ap, sym, _∙_}
-use mathlib.Core.Bool.{Bool, true, false, not, cond, _&&_, _||_, or-comm, or-assoc, false≢true}
-use mathlib.Core.List.{List, [], _∷_, _++_, map, foldl, Sublistᴰ, Sublistᴰ·slnil, Sublistᴰ·cons, Sublistᴰ·cons-cons, Sublistᴰ·refl}
-use Prim.Native.Nat.{ℕ}
+use mathlib.Core.Path.{_≡_, refl, ap, _∙_}
+use mathlib.Core.Bool.{Bool, true, false, not, _&&_, _||_}
+use mathlib.Core.List.{List, [], _∷_, Sublistᴰ, Sublistᴰ·slnil, Sublistᴰ·cons, Sublistᴰ·cons-cons, Sublistᴰ·refl}
 use lib.Dec.{ltb}
 use lib.ListN.{length}
 use borrow.Author.Tests.{not-true}
-use Rattle.rdnss.specs.Entries.{Kind, Marked, places, keep, oneOf, each, isAbout, isHeld, distinct, removed, renewed, evicted, roomed, unmarked, inserted, marking, named, namedAll}
+use Rattle.rdnss.specs.Entries.{Kind, Marked, places, keep, oneOf, each, isAbout, isHeld, distinct, removed, renewed, evicted, roomed, inserted, marking}
 use Rattle.rdnss.proofs.EntryLaws.{cond-case, and-left, and-right, or-left, or-right}
 
 -- Whether two keys are the same is an equivalence, an entry is about the key it is made with, and a renewal leaves that.

@@ -1,15 +1,15 @@
 -- The claims of specs/Claims.antt, proved. Assumes nothing.
 use mathlib.Core.Path.{_≡_, refl, ap, sym, _∙_}
 use mathlib.Core.Bool.{Bool, true, false, not, cond, _&&_, _||_, or-false, or-true, false≢true}
-use mathlib.Core.List.{List, [], _∷_, _++_, foldl, foldl-append}
-use Prim.Native.Nat.{ℕ, suc, _≤_, _<_}
+use mathlib.Core.List.{List, [], _∷_, foldl, foldl-append}
+use Prim.Native.Nat.{ℕ, _≤_, _<_}
 use native.Mathlib.Omega.{arith}
 use lib.Dec.{leb, eqb}
 use lib.ListN.{length}
-use borrow.Author.Tests.{le-leb, eq-eqb}
+use borrow.Author.Tests.{le-leb}
 use Rattle.clock.specs.Clock.{isMoment, isExpiry, isPast, expiryAfter}
 use Rattle.clock.specs.declared.Moment.{Moment}
-use Rattle.rdnss.specs.Entries.{Kind, places, keep, oneOf, each, isAbout, isHeld, distinct, removed, evicted, namedAll}
+use Rattle.rdnss.specs.Entries.{Kind, places, oneOf, each, isHeld, distinct, evicted}
 use Rattle.rdnss.specs.Area.{options, isArea, acts, lifetimeOf, addresses}
 use Rattle.rdnss.specs.ServerList.{servers, held, packed, expires, isSound, isTimely, unexpired, optionApplied, applied, serverList}
 use Rattle.rdnss.specs.Claims.{Evicts, EvictsFirst, StaysSound, namedBy, isNamed, Kept, KeepsUnnamed, WithdrawsLast}

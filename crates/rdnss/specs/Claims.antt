@@ -5,7 +5,7 @@ use mathlib.Core.Path.{_≡_}
 use Prim.Native.Nat.{ℕ, _≤_, _<_}
 use lib.ListN.{length}
 use Rattle.clock.specs.declared.Moment.{Moment}
-use Rattle.rdnss.specs.Entries.{Kind, places, keep, oneOf, each, isAbout, isHeld, evicted}
+use Rattle.rdnss.specs.Entries.{Kind, places, keep, oneOf, each, isHeld, evicted}
 use Rattle.rdnss.specs.Area.{options, acts, lifetimeOf, addresses}
 use Rattle.rdnss.specs.ServerList.{servers, held, isSound, unexpired, serverList}
 use Rattle.rdnss.specs.declared.Address6.{Address6}

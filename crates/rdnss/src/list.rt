@@ -4,11 +4,10 @@ use crate::Server;
 use crate::ServerList;
 use clock::Moment;
 ghost use mathlib.Core.Path.{_≡_};
-ghost use mathlib.Core.List.{[], _∷_, _++_};
-ghost use Prim.Native.Nat.{suc, _+_, _≤_, _<_};
-ghost use lib.ListN.{take, drop, getD};
+ghost use Prim.Native.Nat.{_≤_, _<_};
+ghost use lib.ListN.{getD};
 ghost use Rattle.clock.specs.Clock.{isPast};
-ghost use Rattle.rdnss.specs.Entries.{isAbout, keep};
+ghost use Rattle.rdnss.specs.Entries.{isAbout};
 ghost use Rattle.rdnss.specs.ServerList.{servers, held, packed, expires, blank, unexpired};
 ghost use Rattle.rdnss.specs.Places.{place, insertAt, removeAt, replaceAt, evictPlace, InPlaces};
 
@@ -56,13 +55,13 @@ pub(crate) fn without_expired(l: ServerList, clock: Moment) -> ServerList
     out
 }
 
-// The place of the first entry about an address, from a place on; the count where there is none.
-pub(crate) fn find(l: ServerList, from: usize, a: Address6) -> usize
-    requires { ⌜ (l .count ≤ 8) × (from ≤ l .count) ⌝ }
-    ensures { λ r. ⌜ r ≡ from + place (isAbout servers a) (drop from (held l)) ⌝ }
+// The place of the first entry about an address; the count where there is none.
+pub(crate) fn find(l: ServerList, a: Address6) -> usize
+    requires { ⌜ l .count ≤ 8 ⌝ }
+    ensures { λ r. ⌜ r ≡ place (isAbout servers a) (held l) ⌝ }
 {
     let n = l.count;
-    let mut i = from;
+    let mut i: usize = 0;
     while i < n {
         let e = l.entries[i];
         if is_about(e, a) {

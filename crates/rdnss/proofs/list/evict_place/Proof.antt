@@ -1,10 +1,10 @@
-use Prim.Native.Nat.{_≤_, _<_, _+_, _-_, suc}
-use mathlib.Core.Path.{_≡_, sym, _∙_, refl, ap}
+use Prim.Native.Nat.{_<_, _+_, _-_}
+use mathlib.Core.Path.{_≡_, sym, _∙_}
 use native.Mathlib.Nat.{zero-add}
 use native.Mathlib.Omega.{arith}
 use borrow.Author.Needs.{needs}
 use borrow.Author.Tests.{not-true, not-false}
-use lib.ListN.{length, take, drop, getD, length-map}
+use lib.ListN.{length, drop, length-map}
 use lib.Seq.{length-take-le}
 use Rattle.rdnss.specs.ServerList.{servers, held, blank}
 use Rattle.rdnss.specs.Places.{evictPlace}

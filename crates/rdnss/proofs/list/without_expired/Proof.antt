@@ -1,13 +1,13 @@
-use Prim.Native.Nat.{_≤_, _<_, _+_, _-_}
-use mathlib.Core.Path.{_≡_, sym, _∙_, refl, ap}
+use Prim.Native.Nat.{_≤_, _+_, _-_}
+use mathlib.Core.Path.{_≡_, sym, _∙_, ap}
 use mathlib.Core.Bool.{Bool, not}
 use native.Mathlib.Omega.{arith}
 use borrow.Author.Needs.{needs}
-use lib.ListN.{length, take, getD, length-map}
+use lib.ListN.{length, take, length-map}
 use lib.Seq.{length-take-le}
 use Rattle.clock.specs.Clock.{isPast}
 use Rattle.rdnss.specs.Entries.{keep}
-use Rattle.rdnss.specs.ServerList.{servers, held, packed, unexpired, expires}
+use Rattle.rdnss.specs.ServerList.{packed, unexpired, expires}
 use Rattle.rdnss.specs.declared.Server.{Server}
 use Rattle.rdnss.proofs.EntryLaws.{keep-length, keep-yes, keep-no, keep-nil}
 use Rattle.rdnss.proofs.PackLaws.{of-count, push-packed}
