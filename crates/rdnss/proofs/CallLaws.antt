@@ -1,24 +1,23 @@
 -- The laws of one option and of the whole call. Assumes nothing.
-use mathlib.Core.Path.{_≡_, refl, ap, sym, _∙_}
-use mathlib.Core.Bool.{Bool, true, false, not, cond, _&&_, and-false}
+use mathlib.Core.Path.{_≡_, refl, ap, _∙_}
+use mathlib.Core.Bool.{Bool, true, false, not, _&&_, _||_, and-false}
 use mathlib.Core.List.{List, [], _∷_, foldl}
-use Prim.Native.Nat.{ℕ, suc, _+_, _≤_, _<_}
+use Prim.Native.Nat.{ℕ, suc, _+_, _-_, _≤_, _<_}
 use native.Mathlib.Numerals.{add-one}
 use native.Mathlib.Omega.{arith}
-use lib.Dec.{leb, ltb, eqb}
-use lib.ListN.{length, drop, getD, length-drop, drop-of-length-le}
-use lib.Seq.{drop-cons}
-use borrow.Author.Tests.{lt-ltb, le-ltb, le-leb, lt-leb, leb-true, eq-eqb, ne-eqb}
+use lib.Dec.{leb, eqb}
+use lib.ListN.{length, drop, getD, drop-of-length-le}
+use lib.Seq.{drop-cons, drop-drop}
+use borrow.Author.Tests.{le-leb, lt-leb, leb-true, eq-eqb, ne-eqb}
 use Rattle.clock.specs.Clock.{isMoment, isExpiry, isPast, expiryAfter}
 use Rattle.clock.specs.declared.Moment.{Moment}
 use Rattle.rdnss.specs.Entries.{places, isAbout, isHeld, oneOf, each, distinct, removed, namedAll}
 use Rattle.rdnss.specs.Area.{isWhole, isArea, acts, lifetimeOf, addresses}
 use Rattle.rdnss.specs.ServerList.{servers, held, packed, blank, expires, isSound, isTimely, unexpired, applied, answer, optionApplied, serverList}
-use Rattle.rdnss.specs.Places.{place}
 use Rattle.rdnss.specs.declared.Server.{Server}
 use Rattle.rdnss.specs.declared.ServerList.{ServerList}
 use Rattle.rdnss.proofs.EntryLaws.{keep-length, cond-case, and-left, and-right}
-use Rattle.rdnss.proofs.PlaceLaws.{one-place, take-short}
+use Rattle.rdnss.proofs.PlaceLaws.{take-short}
 use Rattle.rdnss.proofs.MarkLaws.{withdrawn-all, all-fits}
 
 module _ (clock : Moment) (l : List Server) (v : List ℕ) where
@@ -27,6 +26,10 @@ module _ (clock : Moment) (l : List Server) (v : List ℕ) where
   ignored h = rw h
 
   module _ (h : acts v ≡ true) where
+    pub acting : optionApplied clock l v ≡ namedAll servers (eqb (lifetimeOf v .0) 0) (expiryAfter clock (lifetimeOf v)) (addresses v) l
+    unfolding optionApplied
+    acting = rw h
+
     pub withdraws : lifetimeOf v .0 ≡ 0 → optionApplied clock l v ≡ foldl (λ t a. removed servers a t) l (addresses v)
     unfolding optionApplied
     withdraws z = rw (h, eq-eqb (lifetimeOf v .0) 0 z) (withdrawn-all servers (expiryAfter clock (lifetimeOf v)) (addresses v) l)
@@ -39,35 +42,52 @@ module _ (clock : Moment) (l : List Server) (v : List ℕ) where
   unfolding optionApplied
   option-fits h = cond-case (λ (m : List Server). length m ≤ places) (acts v) (λ _. all-fits servers (eqb (lifetimeOf v .0) 0) (expiryAfter clock (lifetimeOf v)) (addresses v) l h) (λ _. h)
 
--- the entries from place i on are orderly
+-- no address stands twice and each expiry is a moment or never
 abbrev pub orderly : List Server → Bool
 orderly l = distinct servers l && each (λ e. isExpiry (expires e)) l
 
-module _ (l : List Server) (i : ℕ) (h : i < length l) (e : Server) (q : e ≡ getD l i blank) where
-  cut : orderly (drop i l) ≡ ((not (isHeld servers (e .address) (drop (suc i) l)) && distinct servers (drop (suc i) l)) && (isExpiry (expires e) && each (λ e. isExpiry (expires e)) (drop (suc i) l)))
-  unfolding distinct each
-  cut = rw (drop-cons l i blank h, q)
+-- the same, where the first entry has been compared with the first m of those behind it
+abbrev pub compared : ℕ → List Server → Bool
+compared m [] = true
+compared m (e ∷ l) = (not (isHeld servers (e .address) (drop m l)) && distinct servers l) && (isExpiry (expires e) && each (λ e. isExpiry (expires e)) l)
 
-  pub no-expiry : isExpiry (expires e) ≡ false → orderly (drop i l) ≡ false
-  no-expiry n = rw (cut, n, and-false)
-
-  module _ (x : isExpiry (expires e) ≡ true) (k : ℕ) (f : k ≡ i + 1 + place (isAbout servers (e .address)) (drop (i + 1) l)) where
-    f′ : k ≡ suc i + place (isAbout servers (e .address)) (drop (suc i) l)
-    f′ = rw add-one at f
-
-    pub twice : k < length l → orderly (drop i l) ≡ false
-    twice w =
-        let n = length-drop (suc i) l in
-        rw (cut, one-place (isAbout servers (e .address)) (drop (suc i) l), lt-ltb (place (isAbout servers (e .address)) (drop (suc i) l)) (length (drop (suc i) l)) (omega (arith, f′)))
-
-    pub once : length l ≤ k → orderly (drop i l) ≡ orderly (drop (i + 1) l)
-    once w =
-        let n = length-drop (suc i) l in
-        rw (cut, x, one-place (isAbout servers (e .address)) (drop (suc i) l), le-ltb (place (isAbout servers (e .address)) (drop (suc i) l)) (length (drop (suc i) l)) (omega (arith, f′)), add-one)
-
-pub orderly-end : (l : List Server) (i : ℕ) → length l ≤ i → orderly (drop i l) ≡ true
+pub compared-none : (l : List Server) → orderly l ≡ compared 0 l
 unfolding distinct each
-orderly-end l i h = rw (drop-of-length-le l {i = i} h)
+compared-none [] = refl
+compared-none (e ∷ l) = refl
+
+module _ (l : List Server) (i k : ℕ) (h : i < length l) (o : i < k) where
+  cut : compared (k - (i + 1)) (drop i l)
+      ≡ ((not (isHeld servers (getD l i blank .address) (drop k l)) && distinct servers (drop (suc i) l)) && (isExpiry (expires (getD l i blank)) && each (λ e. isExpiry (expires e)) (drop (suc i) l)))
+  cut =
+      let s : suc i + (k - (i + 1)) ≡ k = omega arith in
+      let d : drop (k - (i + 1)) (drop (suc i) l) ≡ drop k l = drop-drop (k - (i + 1)) (suc i) l ∙ ap (λ (n : ℕ). drop n l) s in
+      ap (compared (k - (i + 1))) (drop-cons l i blank h)
+      ∙ ap (λ (r : List Server). (not (isHeld servers (getD l i blank .address) r) && distinct servers (drop (suc i) l)) && (isExpiry (expires (getD l i blank)) && each (λ e. isExpiry (expires e)) (drop (suc i) l))) d
+
+  module _ (w : k < length l) where
+    held-next : isHeld servers (getD l i blank .address) (drop k l) ≡ (isAbout servers (getD l i blank .address) (getD l k blank) || isHeld servers (getD l i blank .address) (drop (suc k) l))
+    unfolding oneOf
+    held-next = ap (isHeld servers (getD l i blank .address)) (drop-cons l k blank w)
+
+    pub twice : isAbout servers (getD l i blank .address) (getD l k blank) ≡ true → compared (k - (i + 1)) (drop i l) ≡ false
+    twice t = rw (cut, held-next, t)
+
+  pub no-expiry : length l ≤ k → isExpiry (expires (getD l i blank)) ≡ false → compared (k - (i + 1)) (drop i l) ≡ false
+  no-expiry w t = rw (cut, t, and-false)
+
+  pub once : length l ≤ k → isExpiry (expires (getD l i blank)) ≡ true → compared (k - (i + 1)) (drop i l) ≡ compared (i + 1 + 1 - (i + 1 + 1)) (drop (i + 1) l)
+  unfolding oneOf
+  once w t =
+      let z : i + 1 + 1 - (i + 1 + 1) ≡ 0 = omega arith in
+      rw (cut, drop-of-length-le l {i = k} w, t, z, add-one i) (compared-none (drop (suc i) l))
+
+pub other : (l : List Server) (i k : ℕ) (h : i < length l) (o : i < k) (w : k < length l) → isAbout servers (getD l i blank .address) (getD l k blank) ≡ false
+    → compared (k - (i + 1)) (drop i l) ≡ compared (k + 1 - (i + 1)) (drop i l)
+other l i k h o w t = rw (cut l i k h o, held-next l i k h o w, t, cut l i (k + 1) h (omega arith), add-one k)
+
+pub compared-end : (l : List Server) (i m : ℕ) → length l ≤ i → compared m (drop i l) ≡ true
+compared-end l i m h = rw (drop-of-length-le l {i = i} h)
 
 module _ (l : ServerList) where
   pub too-many : places < l .count → isSound l ≡ false

@@ -7,3 +7,6 @@ pub mod ServerLaws
 pub mod OptionLaws
 pub mod AreaLaws
 pub mod CallLaws
+pub mod SoundLaws
+pub mod NamingLaws
+pub mod Theorems

@@ -1,16 +1,15 @@
 -- The laws of a list of which an option inserted the first entries. Assumes nothing.
 use mathlib.Core.Path.{_≡_, refl, ap, sym, _∙_}
-use mathlib.Core.Bool.{Bool, true, false, not, cond, _||_}
-use mathlib.Core.List.{List, [], _∷_, _++_, map, foldl}
+use mathlib.Core.Bool.{Bool, true, false, cond, _||_}
+use mathlib.Core.List.{List, [], _∷_, map, foldl}
 use Prim.Native.Nat.{ℕ, zero, suc, _+_, _-_, _≤_, _<_}
 use native.Mathlib.Omega.{arith}
 use lib.Dec.{ltb}
-use lib.ListN.{length, take, drop, getD, length-map}
+use lib.ListN.{length, getD, length-map}
 use borrow.Author.Tests.{lt-ltb, le-ltb, ltb-true, ltb-false}
 use Rattle.rdnss.specs.Entries.{Kind, Marked, places, oneOf, isAbout, isHeld, removed, renewed, evicted, roomed, inserted, unmarked, marking, named, namedAll}
 use Rattle.rdnss.specs.Places.{place, insertAt, removeAt, replaceAt, evictPlace, marked}
 use Rattle.rdnss.proofs.EntryLaws.{cond-case, one-some}
-use Rattle.rdnss.proofs.PlaceLaws.{one-place}
 
 -- the rules of a list, by places
 module _ {K X E : Type 0} (kind : Kind K X E) where

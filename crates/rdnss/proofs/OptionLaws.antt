@@ -1,8 +1,8 @@
 -- The laws of the server list while an option is applied. Assumes nothing.
 use mathlib.Core.Path.{_≡_, refl, ap, sym, _∙_}
-use mathlib.Core.Bool.{Bool, true, false}
-use mathlib.Core.List.{List, [], _∷_, map, foldl}
-use Prim.Native.Nat.{ℕ, zero, suc, _+_, _-_, _*_, _≤_, _<_}
+use mathlib.Core.Bool.{false}
+use mathlib.Core.List.{List, [], _∷_}
+use Prim.Native.Nat.{ℕ, suc, _+_, _-_, _*_, _≤_, _<_}
 use native.Mathlib.Numerals.{add-one}
 use native.Mathlib.Omega.{arith}
 use lib.Dec.{ltb}
@@ -86,23 +86,20 @@ module _ (c : Moment) (p q : Placed) (r : Ready p) (h : Holds c (roomed (marking
       ∙ ap (inserted (marking servers .entry a x)) (h .holds))
 
 -- an address that was looked for
-module _ (p : Placed) (r : Ready p) (a : Address6) (x : Moment) (k : ℕ) (e : k ≡ 0 + place (isAbout servers a) (held (p .list))) where
-  at-k : k ≡ place (isAbout servers a) (held (p .list))
-  at-k = omega (arith, e)
-
+module _ (p : Placed) (r : Ready p) (a : Address6) (x : Moment) (k : ℕ) (e : k ≡ place (isAbout servers a) (held (p .list))) where
   is-held : isHeld (marking servers) a (marks p) ≡ ltb (place (isAbout servers a) (held (p .list))) (length (held (p .list)))
   is-held = one-marked (isAbout servers a) (p .at) (held (p .list)) ∙ one-place (isAbout servers a) (held (p .list))
 
   pub found : {m : ServerList} → k < p .list .count → m ≡ packed (p .list .clock) (replaceAt k (servers .renew x (getD (held (p .list)) k blank)) (held (p .list)))
       → Holds (p .list .clock) (named servers false x (marks p) a) (record { list = m; at = p .at })
   found h q =
-      let w : place (isAbout servers a) (held (p .list)) < length (held (p .list)) = omega (arith, at-k, held-length (r .list)) in
+      let w : place (isAbout servers a) (held (p .list)) < length (held (p .list)) = omega (arith, e, held-length (r .list)) in
       let d = replaceAt k (servers .renew x (getD (held (p .list)) k blank)) (held (p .list)) in
       let n : length d ≡ length (held (p .list)) = replaced-length k (servers .renew x (getD (held (p .list)) k blank)) (held (p .list)) (omega (arith, held-length (r .list))) in
       holding (p .list .clock) d (p .at) (named servers false x (marks p) a) q
       (omega (arith, n, held-length (r .list), r .list .few))
       (omega (arith, n, held-length (r .list), r .own))
-      (ap (λ (j : ℕ). marked (p .at) (replaceAt j (servers .renew x (getD (held (p .list)) j blank)) (held (p .list)))) at-k
+      (ap (λ (j : ℕ). marked (p .at) (replaceAt j (servers .renew x (getD (held (p .list)) j blank)) (held (p .list)))) e
       ∙ ap (marked (p .at)) (sym (renewed-at servers a x blank (held (p .list)) w))
       ∙ sym (renewed-marked servers a x (p .at) (held (p .list)))
       ∙ sym (named-present servers x a (marks p) (is-held ∙ lt-ltb _ _ w)))
@@ -110,14 +107,13 @@ module _ (p : Placed) (r : Ready p) (a : Address6) (x : Moment) (k : ℕ) (e : k
   pub missing : {q : Placed} → p .list .count ≤ k → Holds (p .list .clock) (inserted (marking servers .entry a x) (roomed (marking servers) (marks p))) q
       → Holds (p .list .clock) (named servers false x (marks p) a) q
   missing h q =
-      let w : length (held (p .list)) ≤ place (isAbout servers a) (held (p .list)) = omega (arith, at-k, held-length (r .list)) in
+      let w : length (held (p .list)) ≤ place (isAbout servers a) (held (p .list)) = omega (arith, e, held-length (r .list)) in
       record { ready = q .ready; clocked = q .clocked; holds = q .holds ∙ sym (named-absent servers x a (marks p) (is-held ∙ le-ltb _ _ w)) }
 
-module _ (l : ServerList) (i : InPlaces l) (a : Address6) (k : ℕ) (e : k ≡ 0 + place (isAbout servers a) (held l)) where
+module _ (l : ServerList) (i : InPlaces l) (a : Address6) (k : ℕ) (e : k ≡ place (isAbout servers a) (held l)) where
   pub withdrawn : {m : ServerList} → m ≡ packed (l .clock) (removeAt k (held l)) → m ≡ packed (l .clock) (removed servers a (held l))
   withdrawn q =
-      let w : k ≡ place (isAbout servers a) (held l) = omega (arith, e) in
-      q ∙ ap (packed (l .clock)) (ap (λ (n : ℕ). removeAt n (held l)) w ∙ sym (removed-at servers a (held l)))
+      q ∙ ap (packed (l .clock)) (ap (λ (n : ℕ). removeAt n (held l)) e ∙ sym (removed-at servers a (held l)))
 
   pub nothing-to-withdraw : l .count ≤ k → l ≡ packed (l .clock) (removed servers a (held l))
   nothing-to-withdraw h = i .packs ∙ ap (packed (l .clock)) (sym (removed-none servers a (held l) (omega (arith, e, held-length i))))

@@ -1,19 +1,19 @@
 -- The laws of the server list in its places. Assumes nothing.
 use mathlib.Core.Path.{_≡_, refl, ap, sym, _∙_}
-use mathlib.Core.Bool.{Bool, true, false}
+use mathlib.Core.Bool.{Bool}
 use mathlib.Core.List.{List, [], _∷_, _++_}
-use Prim.Native.Nat.{ℕ, zero, suc, _+_, _-_, _≤_, _<_}
+use Prim.Native.Nat.{ℕ, _+_, _-_, _≤_, _<_}
 use native.Mathlib.Omega.{arith}
-use lib.ListN.{length, take, drop, getD, set, replicate, length-append}
-use lib.Seq.{take-at, length-take-le}
+use lib.ListN.{length, getD, set, replicate, length-append}
+use lib.Seq.{take-at, getD-take}
 use Rattle.clock.specs.declared.Moment.{Moment}
-use Rattle.rdnss.specs.Entries.{keep}
-use Rattle.rdnss.specs.ServerList.{packed, held, blank}
-use Rattle.rdnss.specs.Places.{InPlaces, insertAt, removeAt, replaceAt}
+use Rattle.clock.specs.Clock.{isExpiry}
+use Rattle.rdnss.specs.Entries.{isAbout}
+use Rattle.rdnss.specs.ServerList.{servers, packed, held, blank, expires}
+use Rattle.rdnss.specs.Places.{InPlaces, replaceAt}
 use Rattle.rdnss.specs.declared.Server.{Server}
 use Rattle.rdnss.specs.declared.ServerList.{ServerList}
-use Rattle.rdnss.proofs.EntryLaws.{keep-length, keep-yes, keep-no}
-use Rattle.rdnss.proofs.PlaceLaws.{fill, fill-length, fill-push, fill-set, replaced-length}
+use Rattle.rdnss.proofs.PlaceLaws.{fill, fill-length, fill-push, fill-set, replaced-length, getD-any}
 
 pub packed-held : (c : Moment) (d : List Server) → held (packed c d) ≡ d
 unfolding packed
@@ -66,3 +66,20 @@ module _ {l : ServerList} (p : InPlaces l) where
       (ap (λ (x : List Server). set x k e) held-fill ∙ fill-set blank (held l) k e (omega (arith, held-length)))
       (omega (arith, held-length, replaced-length k e (held l) (omega (arith, held-length))))
       refl
+
+-- what the code reads from a place that is held
+pub held-at : (l : ServerList) (k : ℕ) (d : Server) → k < l .count → l .count ≤ length (l .entries) → getD (l .entries) k d ≡ getD (held l) k blank
+held-at l k d h n = getD-any (l .entries) k d blank (omega arith) ∙ sym (getD-take (l .count) (l .entries) k blank h)
+
+-- what a comparison of two such entries said
+pub alike : (l : ServerList) (j k : ℕ) (c d : Server) (t : Bool) → servers .noLater (getD (l .entries) j c) (getD (l .entries) k d) ≡ t
+    → j < l .count → k < l .count → l .count ≤ length (l .entries) → servers .noLater (getD (held l) j blank) (getD (held l) k blank) ≡ t
+alike l j k c d t h p q n = rw (← held-at l j c p n, ← held-at l k d q n) h
+
+pub about-held : (l : ServerList) (j k : ℕ) (c d : Server) (t : Bool) → isAbout servers (getD (l .entries) j c .address) (getD (l .entries) k d) ≡ t
+    → j < l .count → k < l .count → l .count ≤ length (l .entries) → isAbout servers (getD (held l) j blank .address) (getD (held l) k blank) ≡ t
+about-held l j k c d t h p q n = rw (← held-at l j c p n, ← held-at l k d q n) h
+
+pub expiry-held : (l : ServerList) (k : ℕ) (d : Server) (t : Bool) → isExpiry (expires (getD (l .entries) k d)) ≡ t
+    → k < l .count → l .count ≤ length (l .entries) → isExpiry (expires (getD (held l) k blank)) ≡ t
+expiry-held l k d t h q n = rw (← held-at l k d q n) h

@@ -1,13 +1,13 @@
 -- The laws of a list by its places, whatever an entry is about and however it expires. Assumes nothing.
 use mathlib.Core.Path.{_≡_, refl, ap, sym, _∙_}
-use mathlib.Core.Bool.{Bool, true, false, not, cond, _||_}
+use mathlib.Core.Bool.{Bool, true, false, cond, _||_}
 use mathlib.Core.List.{List, [], _∷_, _++_, append-assoc}
 use Prim.Native.Nat.{ℕ, zero, suc, _+_, _-_, _≤_, _<_}
 use native.Mathlib.Numerals.{add-one}
 use native.Mathlib.Omega.{arith}
 use lib.Dec.{ltb, leb·suc-suc}
-use lib.ListN.{length, take, drop, getD, set, replicate, length-append, length-drop, length-set, drop-of-length-le}
-use lib.Seq.{set-append-seam, set-split, take-suc, take-suc-set, take-set-le, drop-set-lt, drop-cons, drop-drop, drop-append-le, take-append-le, take-at, drop-at, length-take-le, getD-take, getD-drop, set-append-left, append-snoc}
+use lib.ListN.{length, take, drop, getD, set, replicate, length-append, length-drop, drop-of-length-le}
+use lib.Seq.{set-append-seam, set-split, take-suc-set, drop-set-lt, drop-cons, drop-drop, drop-append-le, take-append-le, take-at, drop-at, length-take-le, getD-take, getD-drop, set-append-left, append-snoc}
 use borrow.Author.Tests.{lt-ltb, le-ltb}
 use Rattle.rdnss.specs.Entries.{Kind, oneOf}
 use Rattle.rdnss.specs.Places.{place, insertAt, removeAt, replaceAt, evictPlace}

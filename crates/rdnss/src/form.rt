@@ -9,21 +9,29 @@ ghost use Rattle.clock.specs.Clock.{isExpiry};
 ghost use Rattle.rdnss.specs.Entries.{distinct, each};
 ghost use Rattle.rdnss.specs.ServerList.{servers, held, expires, isSound, isTimely};
 
-// Whether no address stands twice and each expiry is a moment or never.
+// Whether no address stands twice and each expiry is a moment or never. Each entry, at i, is compared
+// with those behind it, at k.
 fn is_orderly(l: ServerList) -> bool
     requires { ⌜ l .count ≤ 8 ⌝ }
     ensures { λ r. ⌜ r ≡ (distinct servers (held l) && each (λ e. isExpiry (expires e)) (held l)) ⌝ }
 {
     let n = l.count;
     let mut i: usize = 0;
+    let mut k: usize = 1;
     while i < n {
-        let e = list::entry_at(l, i);
-        i += 1;
-        if !clock::is_expiry(e.expiry) {
-            return false;
-        }
-        if list::find(l, i, e.address) < n {
-            return false;
+        let e = l.entries[i];
+        if k < n {
+            let d = l.entries[k];
+            k += 1;
+            if list::is_about(d, e.address) {
+                return false;
+            }
+        } else {
+            i += 1;
+            k = i + 1;
+            if !clock::is_expiry(e.expiry) {
+                return false;
+            }
         }
     }
     true

@@ -8,7 +8,7 @@ pub mod option;
 use clock::Moment;
 ghost use mathlib.Core.Path.{_≡_};
 ghost use mathlib.Core.List.{[]};
-ghost use Rattle.rdnss.specs.ServerList.{packed, serverList};
+ghost use Rattle.rdnss.specs.ServerList.{packed, answer, serverList};
 
 // An IPv6 address.
 #[repr(C)]
@@ -54,6 +54,16 @@ pub fn empty(clock: Moment) -> ServerList
     }
 }
 
+// A refusal and the list as it was handed in.
+fn refused(refusal: u32, list: ServerList) -> ServerListAnswer
+    ensures { λ r. ⌜ r ≡ answer refusal list ⌝ }
+{
+    ServerListAnswer {
+        refusal: refusal,
+        list: list,
+    }
+}
+
 // The list after a router's option area has come in at a clock. Refused are, in this order: a list
 // that is not sound (31), a clock above clock::LATEST or behind the list's (15), and an area of more
 // than 1,500 octets, or with an option of Length 0 or past the end (16).
@@ -66,22 +76,13 @@ pub extern "C" fn jespurla_server_list(
     ensures { λ r. ⌜ r ≡ serverList list clock (now (area .entry)) ⌝ }
 {
     if !form::is_sound(list) {
-        return ServerListAnswer {
-            refusal: 31,
-            list: list,
-        };
+        return refused(31, list);
     }
     if !form::is_timely(list, clock) {
-        return ServerListAnswer {
-            refusal: 15,
-            list: list,
-        };
+        return refused(15, list);
     }
     if !area::is_area(area) {
-        return ServerListAnswer {
-            refusal: 16,
-            list: list,
-        };
+        return refused(16, list);
     }
     let unexpired = list::without_expired(list, clock);
     let applied = area::apply_all(unexpired, area, clock);

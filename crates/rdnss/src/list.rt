@@ -4,12 +4,10 @@ use crate::Server;
 use crate::ServerList;
 use clock::Moment;
 ghost use mathlib.Core.Path.{_≡_};
-ghost use mathlib.Core.Bool.{not};
-ghost use mathlib.Core.List.{[], _∷_, _++_};
-ghost use Prim.Native.Nat.{suc, _+_, _≤_, _<_};
-ghost use lib.ListN.{take, drop, getD};
+ghost use Prim.Native.Nat.{_≤_, _<_};
+ghost use lib.ListN.{getD};
 ghost use Rattle.clock.specs.Clock.{isPast};
-ghost use Rattle.rdnss.specs.Entries.{isAbout, keep};
+ghost use Rattle.rdnss.specs.Entries.{isAbout};
 ghost use Rattle.rdnss.specs.ServerList.{servers, held, packed, expires, blank, unexpired};
 ghost use Rattle.rdnss.specs.Places.{place, insertAt, removeAt, replaceAt, evictPlace, InPlaces};
 
@@ -21,11 +19,11 @@ pub(crate) fn is_about(e: Server, a: Address6) -> bool
     octets::compare::same(&a.octets, &b.octets)
 }
 
-// Whether an entry stays at a clock: at its expiry it still does.
-fn stays(e: Server, clock: Moment) -> bool
-    ensures { λ r. ⌜ r ≡ not (isPast (expires e) clock) ⌝ }
+// Whether an entry has expired at a clock: at its expiry it has not.
+fn is_expired(e: Server, clock: Moment) -> bool
+    ensures { λ r. ⌜ r ≡ isPast (expires e) clock ⌝ }
 {
-    !clock::is_past(e.expiry, clock)
+    clock::is_past(e.expiry, clock)
 }
 
 // Whether an entry expires no later than another.
@@ -35,14 +33,6 @@ fn is_no_later(d: Server, e: Server) -> bool
     let x = d.expiry;
     let y = e.expiry;
     x.0 <= y.0
-}
-
-// The entry at a place.
-pub(crate) fn entry_at(l: ServerList, k: usize) -> Server
-    requires { ⌜ (l .count ≤ 8) × (k < l .count) ⌝ }
-    ensures { λ r. ⌜ r ≡ getD (held l) k blank ⌝ }
-{
-    l.entries[k]
 }
 
 // The list at a new clock, without the entries that expired before it.
@@ -56,7 +46,7 @@ pub(crate) fn without_expired(l: ServerList, clock: Moment) -> ServerList
     while i < n {
         let e = l.entries[i];
         i += 1;
-        if stays(e, clock) {
+        if !is_expired(e, clock) {
             let k = out.count;
             out.entries[k] = e;
             out.count = k + 1;
@@ -65,13 +55,13 @@ pub(crate) fn without_expired(l: ServerList, clock: Moment) -> ServerList
     out
 }
 
-// The place of the first entry about an address, from a place on; the count where there is none.
-pub(crate) fn find(l: ServerList, from: usize, a: Address6) -> usize
-    requires { ⌜ (l .count ≤ 8) × (from ≤ l .count) ⌝ }
-    ensures { λ r. ⌜ r ≡ from + place (isAbout servers a) (drop from (held l)) ⌝ }
+// The place of the first entry about an address; the count where there is none.
+pub(crate) fn find(l: ServerList, a: Address6) -> usize
+    requires { ⌜ l .count ≤ 8 ⌝ }
+    ensures { λ r. ⌜ r ≡ place (isAbout servers a) (held l) ⌝ }
 {
     let n = l.count;
-    let mut i = from;
+    let mut i: usize = 0;
     while i < n {
         let e = l.entries[i];
         if is_about(e, a) {
@@ -111,12 +101,12 @@ pub(crate) fn insert_at(l: ServerList, k: usize, e: Server) -> ServerList
     let n = l.count;
     let mut m = l;
     let mut carried = e;
-    let mut i = k;
-    while i < n {
-        let next = m.entries[i];
-        m.entries[i] = carried;
+    let mut at = k;
+    while at < n {
+        let next = m.entries[at];
+        m.entries[at] = carried;
         carried = next;
-        i += 1;
+        at += 1;
     }
     m.entries[n] = carried;
     m.count = n + 1;
@@ -128,9 +118,9 @@ pub(crate) fn renew_at(l: ServerList, k: usize, x: Moment) -> ServerList
     requires { ⌜ InPlaces l × (k < l .count) ⌝ }
     ensures { λ r. ⌜ r ≡ packed (l .clock) (replaceAt k (servers .renew x (getD (held l) k blank)) (held l)) ⌝ }
 {
-    let d = entry_at(l, k);
-    let a = d.address;
     let mut m = l;
+    let e = m.entries[k];
+    let a = e.address;
     m.entries[k] = Server {
         address: a,
         expiry: x,
@@ -147,8 +137,8 @@ pub(crate) fn evict_place(l: ServerList) -> usize
     let mut best = i;
     while 0 < i {
         i -= 1;
-        let e = entry_at(l, i);
-        let b = entry_at(l, best);
+        let e = l.entries[i];
+        let b = l.entries[best];
         if !is_no_later(b, e) {
             best = i;
         }

@@ -9,7 +9,7 @@ ghost use mathlib.Core.Path.{_≡_};
 ghost use mathlib.Core.Bool.{false};
 ghost use mathlib.Core.List.{foldl};
 ghost use Prim.Native.Nat.{_+_, _-_, _*_, _/_, _≤_, _<_, min};
-ghost use lib.ListN.{length, take, drop, getD};
+ghost use lib.ListN.{length, take, drop};
 ghost use Rattle.rdnss.specs.Entries.{marking, roomed, inserted, named, namedAll, removed};
 ghost use Rattle.rdnss.specs.Area.{acts, addressesFrom};
 ghost use Rattle.rdnss.specs.ServerList.{servers, held, packed, optionApplied};
@@ -69,7 +69,7 @@ fn name(p: Placed, a: Address6, x: Moment) -> Placed
     ensures { λ r. ⌜ Holds (p .list .clock) (named servers false x (marks p) a) r ⌝ }
 {
     let l = p.list;
-    let k = list::find(l, 0, a);
+    let k = list::find(l, a);
     if k < l.count {
         let m = list::renew_at(l, k, x);
         return Placed { list: m, at: p.at };
@@ -82,7 +82,7 @@ fn withdraw(l: ServerList, a: Address6) -> ServerList
     requires { ⌜ InPlaces l ⌝ }
     ensures { λ r. ⌜ r ≡ packed (l .clock) (removed servers a (held l)) ⌝ }
 {
-    let k = list::find(l, 0, a);
+    let k = list::find(l, a);
     if k < l.count {
         return list::remove_at(l, k);
     }

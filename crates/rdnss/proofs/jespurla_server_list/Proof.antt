@@ -11,29 +11,38 @@ use Rattle.rdnss.proofs.jespurla_server_list.Tie as tie
 is-sound-requires : tie.Need-is-sound-requires
 is-sound-requires c κs = search needs
 
+refused-requires : tie.Need-refused-requires
+refused-requires c κs = search needs
+
 returns : tie.Need-returns
 returns c =
-    let s = c .before .before .before .args in
-    refused-31 (s .list) (s .clock) (s .area .now) (sym (c .before .is-sound .ensures) ∙ not-true _ (c .if1 .taken))
+    let s = c .before .before .before .before .args in
+    c .refused .ensures ∙ refused-31 (s .list) (s .clock) (s .area .now) (sym (c .before .before .is-sound .ensures) ∙ not-true _ (c .before .if1 .taken))
 
 is-timely-requires : tie.Need-is-timely-requires
 is-timely-requires c κs = search needs
 
+refused-requires-2 : tie.Need-refused-requires-2
+refused-requires-2 c κs = search needs
+
 returns-2 : tie.Need-returns-2
 returns-2 c =
-    let s = c .before .before .before .before .before .args in
-    let x = sym (c .before .before .before .is-sound .ensures) ∙ not-false _ (c .before .before .if1 .left) in
-    refused-15 (s .list) (s .clock) (s .area .now) x (sym (c .before .is-timely .ensures) ∙ not-true _ (c .if2 .taken))
+    let s = c .before .before .before .before .before .before .args in
+    let x = sym (c .before .before .before .before .is-sound .ensures) ∙ not-false _ (c .before .before .before .if1 .left) in
+    c .refused2 .ensures ∙ refused-15 (s .list) (s .clock) (s .area .now) x (sym (c .before .before .is-timely .ensures) ∙ not-true _ (c .before .if2 .taken))
 
 is-area-requires : tie.Need-is-area-requires
 is-area-requires c κs = search needs
 
+refused-requires-3 : tie.Need-refused-requires-3
+refused-requires-3 c κs = search needs
+
 returns-3 : tie.Need-returns-3
 returns-3 c =
-    let s = c .before .before .before .before .before .before .before .args in
-    let x = sym (c .before .before .before .before .before .is-sound .ensures) ∙ not-false _ (c .before .before .before .before .if1 .left) in
-    let y = sym (c .before .before .before .is-timely .ensures) ∙ not-false _ (c .before .before .if2 .left) in
-    refused-16 (s .list) (s .clock) (s .area .now) x y (sym (c .before .is-area .ensures) ∙ not-true _ (c .if3 .taken))
+    let s = c .before .before .before .before .before .before .before .before .args in
+    let x = sym (c .before .before .before .before .before .before .is-sound .ensures) ∙ not-false _ (c .before .before .before .before .before .if1 .left) in
+    let y = sym (c .before .before .before .before .is-timely .ensures) ∙ not-false _ (c .before .before .before .if2 .left) in
+    c .refused3 .ensures ∙ refused-16 (s .list) (s .clock) (s .area .now) x y (sym (c .before .before .is-area .ensures) ∙ not-true _ (c .before .if3 .taken))
 
 without-expired-requires : tie.Need-without-expired-requires
 without-expired-requires c κs =
@@ -64,10 +73,13 @@ jespurla-server-list-spec =
     tie.close
     (tie.spec
     is-sound-requires
+    refused-requires
     returns
     is-timely-requires
+    refused-requires-2
     returns-2
     is-area-requires
+    refused-requires-3
     returns-3
     without-expired-requires
     apply-all-requires

@@ -1,4 +1,4 @@
-use Prim.Native.Nat.{ℕ, _*_, _≤_, _<_, _+_, _-_}
+use Prim.Native.Nat.{_*_, _≤_, _+_, _-_}
 use mathlib.Core.Path.{_≡_, sym, _∙_, refl, ap}
 use mathlib.Core.Bool.{true}
 use mathlib.Core.List.{List, foldl}
@@ -6,7 +6,7 @@ use native.Mathlib.Omega.{arith}
 use borrow.Author.Needs.{needs}
 use lib.ListN.{length, take, drop, getD}
 use Rattle.rdnss.specs.Area.{isWhole, options}
-use Rattle.rdnss.specs.ServerList.{held, packed, optionApplied}
+use Rattle.rdnss.specs.ServerList.{held, optionApplied}
 use Rattle.rdnss.specs.Places.{InPlaces}
 use Rattle.rdnss.specs.declared.Server.{Server}
 use Rattle.rdnss.proofs.AreaLaws.{fits-at, whole-at, options-at, part-at, part-fits, options-out}

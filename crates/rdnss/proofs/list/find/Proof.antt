@@ -1,8 +1,8 @@
-use Prim.Native.Nat.{_≤_, _<_, _+_, _-_}
-use mathlib.Core.Path.{_≡_, sym, _∙_, refl}
+use Prim.Native.Nat.{_≤_, _+_, _-_}
+use mathlib.Core.Path.{_≡_, sym, _∙_}
 use native.Mathlib.Omega.{arith}
 use borrow.Author.Needs.{needs}
-use lib.ListN.{length, take, drop, getD, length-map}
+use lib.ListN.{length, drop, length-map}
 use Rattle.rdnss.specs.Entries.{isAbout}
 use Rattle.rdnss.specs.ServerList.{servers, held}
 use Rattle.rdnss.specs.Places.{place}
@@ -11,13 +11,13 @@ use Rattle.rdnss.proofs.list.find.Statement.{statement}
 use Rattle.rdnss.proofs.list.find.Tie as tie
 
 abbrev Inv-loop : tie.InvT-loop
-Inv-loop from a l n i₀ i = (length (l .entries) ≡ 8) × (i ≤ n) × (from + place (isAbout servers a) (drop from (held l)) ≡ i + place (isAbout servers a) (drop i (held l)))
+Inv-loop a l n i₀ i = (length (l .entries) ≡ 8) × (i ≤ n) × (place (isAbout servers a) (held l) ≡ i + place (isAbout servers a) (drop i (held l)))
 
 abbrev μ-loop : tie.MeasureT-loop
-μ-loop from a l n i₀ i = n - i
+μ-loop a l n i₀ i = n - i
 
 loop-holds : tie.Need-loop-holds Inv-loop μ-loop
-loop-holds c = (simp length-map at (c .good .0 .1 .1 .0 .1 .0 .1), omega arith, refl)
+loop-holds c = (simp length-map at (c .good .0 .1 .1 .0 .1 .0 .1), omega arith, omega arith)
 
 mul-e : tie.Need-mul-e Inv-loop μ-loop
 mul-e c = search needs

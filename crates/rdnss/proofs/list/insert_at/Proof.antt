@@ -1,20 +1,20 @@
-use mathlib.Core.Path.{_≡_, sym, _∙_, refl, ap}
-use Prim.Native.Nat.{_≤_, _<_, _+_, _-_}
+use mathlib.Core.Path.{_≡_, _∙_, refl, ap}
+use Prim.Native.Nat.{_≤_, _-_}
 use native.Mathlib.Omega.{arith}
-use lib.ListN.{length, getD, set, length-set}
+use lib.ListN.{length, length-set}
 use borrow.Author.Needs.{needs}
-use Rattle.rdnss.specs.ServerList.{held, packed, blank}
+use Rattle.rdnss.specs.ServerList.{held, blank}
 use Rattle.rdnss.specs.Places.{insertAt}
-use Rattle.rdnss.proofs.PlaceLaws.{fill, fill-length, back-more, back-end, inserted-length}
+use Rattle.rdnss.proofs.PlaceLaws.{fill, back-more, back-end, inserted-length}
 use Rattle.rdnss.proofs.PackLaws.{packs, held-length, held-fill, full-length}
 use Rattle.rdnss.proofs.list.insert_at.Statement.{statement}
 use Rattle.rdnss.proofs.list.insert_at.Tie as tie
 
 abbrev Inv-loop : tie.InvT-loop
-Inv-loop k n m₀ carried₀ i₀ m carried i = (length (m .entries) ≡ 8) × (m .clock ≡ m₀ .clock) × (k ≤ i) × (i ≤ n) × (insertAt i carried (m .entries) ≡ insertAt k carried₀ (m₀ .entries))
+Inv-loop k n m₀ carried₀ at₀ m carried at = (length (m .entries) ≡ 8) × (m .clock ≡ m₀ .clock) × (k ≤ at) × (at ≤ n) × (insertAt at carried (m .entries) ≡ insertAt k carried₀ (m₀ .entries))
 
 abbrev μ-loop : tie.MeasureT-loop
-μ-loop k n m₀ carried₀ i₀ m carried i = n - i
+μ-loop k n m₀ carried₀ at₀ m carried at = n - at
 
 loop-holds : tie.Need-loop-holds Inv-loop μ-loop
 loop-holds c = (full-length (c .pre .0), refl, omega arith, omega arith, refl)
@@ -31,8 +31,8 @@ mul-carried c = search needs
 element-set-from-carried : tie.Need-element-set-from-carried Inv-loop μ-loop
 element-set-from-carried c = search needs
 
-add-i : tie.Need-add-i Inv-loop μ-loop
-add-i c = omega arith
+add-at : tie.Need-add-at Inv-loop μ-loop
+add-at c = omega arith
 
 loop-less : tie.Need-loop-less Inv-loop μ-loop
 loop-less c = omega arith
@@ -41,7 +41,7 @@ loop-again : tie.Need-loop-again Inv-loop μ-loop
 loop-again c =
     let l = c .before .before .loop in
     let h = l .inv in
-    (simp length-set (h .0), h .1, omega arith, omega arith, back-more (l .m .entries) (l .i) (l .carried) _ (omega arith) ∙ h .4)
+    (simp length-set (h .0), h .1, omega arith, omega arith, back-more (l .m .entries) (l .at) (l .carried) _ (omega arith) ∙ h .4)
 
 mul-carried-2 : tie.Need-mul-carried-2 Inv-loop μ-loop
 mul-carried-2 c = search needs
@@ -59,7 +59,7 @@ returns c =
     let h = l .inv in
     let p = a .pre .0 in
     let n = a .args .l .count in
-    let e : l .i ≡ n = omega arith in
+    let e : l .at ≡ n = omega arith in
     let q : insertAt n (l .carried) (l .m .entries) ≡ insertAt (a .args .k) (a .args .e) (fill blank (held (a .args .l))) = rw (← e) (h .4) ∙ ap (insertAt (a .args .k) (a .args .e)) (held-fill p) in
     packs _ (a .args .l .clock) (insertAt (a .args .k) (a .args .e) (held (a .args .l)))
     (back-end blank (held (a .args .l)) (l .m .entries) (a .args .k) n (l .carried) (a .args .e) (held-length p) (omega arith) (h .0) (omega arith) q)
@@ -77,7 +77,7 @@ insert-at-spec =
     element-copy-out-next
     mul-carried
     element-set-from-carried
-    add-i
+    add-at
     loop-less
     loop-again
     mul-carried-2

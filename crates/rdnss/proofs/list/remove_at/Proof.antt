@@ -1,11 +1,11 @@
-use mathlib.Core.Path.{_≡_, sym, _∙_, refl, ap}
-use Prim.Native.Nat.{_≤_, _<_, _+_, _-_}
+use mathlib.Core.Path.{_≡_, _∙_, refl, ap}
+use Prim.Native.Nat.{_≤_, _-_}
 use native.Mathlib.Omega.{arith}
-use lib.ListN.{length, getD, set, length-set}
+use lib.ListN.{length, length-set}
 use borrow.Author.Needs.{needs}
-use Rattle.rdnss.specs.ServerList.{held, packed, blank}
+use Rattle.rdnss.specs.ServerList.{held, blank}
 use Rattle.rdnss.specs.Places.{removeAt}
-use Rattle.rdnss.proofs.PlaceLaws.{fill, fill-length, up-more, up-end, removed-length}
+use Rattle.rdnss.proofs.PlaceLaws.{fill, up-more, up-end, removed-length}
 use Rattle.rdnss.proofs.PackLaws.{packs, held-length, held-fill, full-length}
 use Rattle.rdnss.proofs.list.remove_at.Statement.{statement}
 use Rattle.rdnss.proofs.list.remove_at.Tie as tie

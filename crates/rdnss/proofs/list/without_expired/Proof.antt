@@ -1,13 +1,13 @@
-use Prim.Native.Nat.{_≤_, _<_, _+_, _-_}
-use mathlib.Core.Path.{_≡_, sym, _∙_, refl, ap}
+use Prim.Native.Nat.{_≤_, _+_, _-_}
+use mathlib.Core.Path.{_≡_, sym, _∙_, ap}
 use mathlib.Core.Bool.{Bool, not}
 use native.Mathlib.Omega.{arith}
 use borrow.Author.Needs.{needs}
-use lib.ListN.{length, take, getD, length-map}
+use lib.ListN.{length, take, length-map}
 use lib.Seq.{length-take-le}
 use Rattle.clock.specs.Clock.{isPast}
 use Rattle.rdnss.specs.Entries.{keep}
-use Rattle.rdnss.specs.ServerList.{servers, held, packed, unexpired, expires}
+use Rattle.rdnss.specs.ServerList.{packed, unexpired, expires}
 use Rattle.rdnss.specs.declared.Server.{Server}
 use Rattle.rdnss.proofs.EntryLaws.{keep-length, keep-yes, keep-no, keep-nil}
 use Rattle.rdnss.proofs.PackLaws.{of-count, push-packed}
@@ -35,8 +35,8 @@ element-copy-out-e c = search needs
 add-i : tie.Need-add-i Inv-loop μ-loop
 add-i c = search needs
 
-stays-requires : tie.Need-stays-requires Inv-loop μ-loop
-stays-requires c κs = search needs
+is-expired-requires : tie.Need-is-expired-requires Inv-loop μ-loop
+is-expired-requires c κs = search needs
 
 mul-e-2 : tie.Need-mul-e-2 Inv-loop μ-loop
 mul-e-2 c =
@@ -63,7 +63,7 @@ loop-again c =
     let h = l .inv in
     let x = a .t1 .entries in
     let p : Server → Bool = λ e. not (isPast (expires e) (a .clock)) in
-    let k = keep-yes p x (l .i) _ (omega arith) (sym (c .before .stays .ensures) ∙ c .if1 .taken) in
+    let k = keep-yes p x (l .i) _ (omega arith) (sym (ap not (c .before .is-expired .ensures)) ∙ c .if1 .taken) in
     (h .0, omega arith, push-packed (a .clock) (keep p (take (l .i) x)) (l .out) _ (h .2) (omega arith) ∙ ap (packed (a .clock)) (sym k), omega (arith, keep-length p (take (l .i + 1) x), length-take-le (l .i + 1) x (omega arith)))
 
 loop-less-2 : tie.Need-loop-less-2 Inv-loop μ-loop
@@ -76,7 +76,7 @@ loop-again-2 c =
     let h = l .inv in
     let x = a .t1 .entries in
     let p : Server → Bool = λ e. not (isPast (expires e) (a .clock)) in
-    let k = keep-no p x (l .i) _ (omega arith) (sym (c .before .stays .ensures) ∙ c .if1 .left) in
+    let k = keep-no p x (l .i) _ (omega arith) (sym (ap not (c .before .is-expired .ensures)) ∙ c .if1 .left) in
     (h .0, omega arith, h .2 ∙ ap (packed (a .clock)) (sym k), omega (arith, keep-length p (take (l .i + 1) x), length-take-le (l .i + 1) x (omega arith)))
 
 returns : tie.Need-returns Inv-loop μ-loop
@@ -97,7 +97,7 @@ without-expired-spec =
     mul-e
     element-copy-out-e
     add-i
-    stays-requires
+    is-expired-requires
     mul-e-2
     element-set-from-e
     add-out

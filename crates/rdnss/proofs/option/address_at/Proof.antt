@@ -1,10 +1,10 @@
 use mathlib.Core.List.{List}
-use Prim.Native.Nat.{ℕ, _≤_, _<_, _+_, _-_, suc}
+use Prim.Native.Nat.{ℕ, _≤_, _<_, _+_, _-_}
 use mathlib.Core.Path.{_≡_, sym, _∙_, refl, ap}
 use native.Mathlib.Numerals.{add-one}
 use native.Mathlib.Omega.{arith}
 use borrow.Author.Needs.{needs}
-use lib.ListN.{length, take, drop, getD, set, length-set, length-drop}
+use lib.ListN.{length, take, drop, getD, length-set, length-drop}
 use lib.Seq.{take-suc-set, take-suc, getD-drop, take-all}
 use Rattle.rdnss.proofs.option.address_at.Statement.{statement}
 use Rattle.rdnss.proofs.option.address_at.Tie as tie

@@ -1,12 +1,10 @@
-use mathlib.Core.Path.{_≡_, sym, _∙_, ap}
+use mathlib.Core.Path.{sym, _∙_, ap}
 use native.Mathlib.Omega.{arith}
 use borrow.Author.Tests.{not-true, not-false}
 use Prim.Native.Nat.{ℕ}
-use mathlib.Core.List.{List, foldl}
+use mathlib.Core.List.{foldl}
 use mathlib.Core.Bool.{false}
 use lib.ListN.{drop, getD}
-use Rattle.clock.specs.Clock.{span, expiryAfter}
-use Rattle.clock.specs.declared.Moment.{Moment}
 use Rattle.rdnss.specs.Entries.{removed, namedAll}
 use Rattle.rdnss.specs.Area.{addressesFrom}
 use Rattle.rdnss.specs.ServerList.{servers, held, packed}

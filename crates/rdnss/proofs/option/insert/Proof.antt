@@ -1,4 +1,3 @@
-use native.Mathlib.Omega.{arith}
 use Rattle.rdnss.proofs.OptionLaws.{room-made, put-in}
 use borrow.Author.Needs.{needs}
 use Rattle.rdnss.proofs.option.insert.Statement.{statement}

@@ -1,5 +1,4 @@
 use native.Mathlib.Omega.{arith}
-use mathlib.Core.Path.{_≡_}
 use Rattle.rdnss.proofs.OptionLaws.{room-left, evict-within, own-evicted, other-evicted}
 use borrow.Author.Needs.{needs}
 use Rattle.rdnss.proofs.option.make_room.Statement.{statement}

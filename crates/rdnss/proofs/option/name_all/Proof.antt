@@ -1,15 +1,14 @@
-use Prim.Native.Nat.{_≤_, _<_, _+_, _-_, _*_}
+use Prim.Native.Nat.{_≤_, _+_, _-_, _*_}
 use mathlib.Core.Path.{_≡_, sym, _∙_, refl, ap}
 use mathlib.Core.Bool.{false}
 use mathlib.Core.List.{List, foldl, map}
 use native.Mathlib.Omega.{arith}
 use borrow.Author.Needs.{needs}
-use lib.ListN.{length, drop}
-use Rattle.rdnss.specs.Entries.{Marked, named, namedAll, unmarked}
+use lib.ListN.{drop}
+use Rattle.rdnss.specs.Entries.{Marked, named, namedAll}
 use Rattle.rdnss.specs.Area.{addressesFrom}
 use Rattle.rdnss.specs.ServerList.{servers, held, packed}
 use Rattle.rdnss.specs.Places.{Ready, marks, marked}
-use Rattle.rdnss.specs.declared.Address6.{Address6}
 use Rattle.rdnss.specs.declared.Server.{Server}
 use Rattle.rdnss.proofs.MarkLaws.{marked-items, marked-none}
 use Rattle.rdnss.proofs.OptionLaws.{addresses-start, addresses-more, addresses-end}

@@ -1,12 +1,12 @@
-use Prim.Native.Nat.{_≤_, _<_, _+_, _-_, _*_}
+use Prim.Native.Nat.{_≤_, _+_, _-_, _*_}
 use mathlib.Core.Path.{_≡_, sym, _∙_, refl, ap}
 use mathlib.Core.List.{List, foldl}
 use native.Mathlib.Omega.{arith}
 use borrow.Author.Needs.{needs}
-use lib.ListN.{length, drop}
+use lib.ListN.{drop}
 use Rattle.rdnss.specs.Entries.{removed}
 use Rattle.rdnss.specs.Area.{addressesFrom}
-use Rattle.rdnss.specs.ServerList.{servers, held, packed}
+use Rattle.rdnss.specs.ServerList.{servers, held}
 use Rattle.rdnss.specs.Places.{InPlaces}
 use Rattle.rdnss.specs.declared.Address6.{Address6}
 use Rattle.rdnss.specs.declared.Server.{Server}

@@ -1,0 +1,188 @@
+-- The claims of specs/Claims.antt, proved. Assumes nothing.
+use mathlib.Core.Path.{_≡_, refl, ap, sym, _∙_}
+use mathlib.Core.Bool.{Bool, true, false, not, cond, _&&_, _||_, or-false, or-true, false≢true}
+use mathlib.Core.List.{List, [], _∷_, foldl, foldl-append}
+use Prim.Native.Nat.{ℕ, _≤_, _<_}
+use native.Mathlib.Omega.{arith}
+use lib.Dec.{leb, eqb}
+use lib.ListN.{length}
+use borrow.Author.Tests.{le-leb}
+use Rattle.clock.specs.Clock.{isMoment, isExpiry, isPast, expiryAfter}
+use Rattle.clock.specs.declared.Moment.{Moment}
+use Rattle.rdnss.specs.Entries.{Kind, places, oneOf, each, isHeld, distinct, evicted}
+use Rattle.rdnss.specs.Area.{options, isArea, acts, lifetimeOf, addresses}
+use Rattle.rdnss.specs.ServerList.{servers, held, packed, expires, isSound, isTimely, unexpired, optionApplied, applied, serverList}
+use Rattle.rdnss.specs.Claims.{Evicts, EvictsFirst, StaysSound, namedBy, isNamed, Kept, KeepsUnnamed, WithdrawsLast}
+use Rattle.rdnss.specs.Claims.Kept.{same, then}
+use Rattle.rdnss.specs.declared.Address6.{Address6}
+use Rattle.rdnss.specs.declared.Server.{Server}
+use Rattle.rdnss.specs.declared.ServerList.{ServerList}
+use Rattle.rdnss.proofs.EntryLaws.{Ordered, cond-case, and-both, and-left, and-right, or-left, or-right, one-some, each-cons, itself, before-all, through}
+use Rattle.rdnss.proofs.SoundLaws.{part-each, part-distinct, keep-part}
+use Rattle.rdnss.proofs.NamingLaws.{all-distinct, all-each, all-stay-absent, all-kept, withdrawn-absent}
+use Rattle.rdnss.proofs.ServerLaws.{ordered, lawful, is-expiry-after}
+use Rattle.rdnss.proofs.PackLaws.{packed-held}
+use Rattle.rdnss.proofs.CallLaws.{orderly, refused-31, refused-15, refused-16, accepted, sound-count, unexpired-fits, ignored, acting, withdraws, option-fits}
+
+-- evictions
+module _ {K X E : Type 0} (kind : Kind K X E) (o : Ordered kind) where
+  pub evicts-first-of : (l : List E) → 0 < length l → Evicts kind l
+  unfolding evicted
+  evicts-first-of [] h = absurd (omega arith)
+  evicts-first-of (e ∷ l) h = go (oneOf (λ d. kind .noLater d e) l) refl (evicts-first-of l)
+    where
+      go : (b : Bool) → oneOf (λ d. kind .noLater d e) l ≡ b → (0 < length l → Evicts kind l) → Evicts kind (e ∷ l)
+      go true t i =
+          let r = i (one-some (λ d. kind .noLater d e) l t) in
+          record {
+            front = e ∷ r .front;
+            gone = r .gone;
+            back = r .back;
+            stood = ap (λ (m : List E). e ∷ m) (r .stood);
+            left = ap (λ (b : Bool). cond b (e ∷ evicted kind l) l) t ∙ ap (λ (m : List E). e ∷ m) (r .left);
+            first = each-cons (λ d. kind .noLater (r .gone) d) e l (through kind o (r .gone) e l (r .first) t) (r .first);
+            furthest = r .furthest;
+          }
+      go false t i =
+          record {
+            front = [];
+            gone = e;
+            back = l;
+            stood = refl;
+            left = ap (λ (b : Bool). cond b (e ∷ evicted kind l) l) t;
+            first = each-cons (λ d. kind .noLater e d) e l (itself kind o e) (before-all kind o e l t);
+            furthest = t;
+          }
+
+pub evicts-first : EvictsFirst
+evicts-first l h = evicts-first-of servers ordered l h
+
+-- soundness: of one option, of all, and of the call
+module _ (clock : Moment) where
+  option-sound : (l : List Server) (v : List ℕ) → orderly l ≡ true → orderly (optionApplied clock l v) ≡ true
+  unfolding optionApplied
+  option-sound l v h =
+      cond-case (λ (m : List Server). orderly m ≡ true) (acts v)
+      (λ _.
+      and-both _ _
+      (all-distinct servers lawful (eqb (lifetimeOf v .0) 0) (expiryAfter clock (lifetimeOf v)) (addresses v) l (and-left (distinct servers l) (each (λ e. isExpiry (expires e)) l) h))
+      (all-each servers (λ e. isExpiry (expires e)) (expiryAfter clock (lifetimeOf v)) (λ a. is-expiry-after clock (lifetimeOf v)) (λ e. is-expiry-after clock (lifetimeOf v)) (eqb (lifetimeOf v .0) 0) (addresses v) l (and-right (distinct servers l) (each (λ e. isExpiry (expires e)) l) h)))
+      (λ _. h)
+
+  options-sound : (vs : List (List ℕ)) (l : List Server) → orderly l ≡ true → orderly (foldl (optionApplied clock) l vs) ≡ true
+  options-sound [] l h = h
+  options-sound (v ∷ vs) l h = options-sound vs (optionApplied clock l v) (option-sound l v h)
+
+  options-fit : (vs : List (List ℕ)) (l : List Server) → length l ≤ places → length (foldl (optionApplied clock) l vs) ≤ places
+  options-fit [] l h = h
+  options-fit (v ∷ vs) l h = options-fit vs (optionApplied clock l v) (option-fits clock l v h)
+
+  unexpired-sound : (l : List Server) → orderly l ≡ true → orderly (unexpired clock l) ≡ true
+  unexpired-sound l h =
+      let s = keep-part (λ (e : Server). not (isPast (expires e) clock)) l in
+      and-both _ _
+      (part-distinct servers s (and-left (distinct servers l) (each (λ e. isExpiry (expires e)) l) h))
+      (part-each (λ e. isExpiry (expires e)) s (and-right (distinct servers l) (each (λ e. isExpiry (expires e)) l) h))
+
+  packed-sound : (l : List Server) → isMoment clock ≡ true → length l ≤ places → orderly l ≡ true → isSound (packed clock l) ≡ true
+  unfolding isSound packed
+  packed-sound l m n h = and-both _ _ (and-both _ _ (le-leb (length l) places n) m) (ap orderly (packed-held clock l) ∙ h)
+
+sound-orderly : (list : ServerList) → isSound list ≡ true → orderly (held list) ≡ true
+unfolding isSound
+sound-orderly list h = and-right (leb (list .count) places && isMoment (list .clock)) (orderly (held list)) h
+
+timely-moment : (list : ServerList) (clock : Moment) → isTimely list clock ≡ true → isMoment clock ≡ true
+unfolding isTimely
+timely-moment list clock h = and-left (isMoment clock) (leb (list .clock .0) (clock .0)) h
+
+pub stays-sound : StaysSound
+stays-sound list clock area s = go (isTimely list clock) refl (isArea area) refl
+  where
+    go : (t : Bool) → isTimely list clock ≡ t → (a : Bool) → isArea area ≡ a → isSound (serverList list clock area .list) ≡ true
+    go true t true a =
+        ap (λ r. isSound (r .list)) (sym (accepted list clock area s t a))
+        ∙ packed-sound clock (applied clock area (held list)) (timely-moment list clock t)
+        (options-fit clock (options 0 area) (unexpired clock (held list)) (unexpired-fits list clock (sound-count list s)))
+        (options-sound clock (options 0 area) (unexpired clock (held list)) (unexpired-sound clock (held list) (sound-orderly list s)))
+    go true t false a = ap (λ r. isSound (r .list)) (sym (refused-16 list clock area s t a)) ∙ s
+    go false t a q = ap (λ r. isSound (r .list)) (sym (refused-15 list clock area s t)) ∙ s
+
+-- a call that is not refused
+pub record Accepted (list : ServerList) (clock : Moment) (area : List ℕ) : Type 0 where
+  pub sound : isSound list ≡ true
+  pub gives : held (serverList list clock area .list) ≡ applied clock area (held list)
+
+pub unrefused : (list : ServerList) (clock : Moment) (area : List ℕ) → serverList list clock area .refusal ≡ 0 → Accepted list clock area
+unrefused list clock area h = go (isSound list) refl (isTimely list clock) refl (isArea area) refl
+  where
+    go : (s : Bool) → isSound list ≡ s → (t : Bool) → isTimely list clock ≡ t → (a : Bool) → isArea area ≡ a → Accepted list clock area
+    go true s true t true a = record { sound = s; gives = ap (λ r. held (r .list)) (sym (accepted list clock area s t a)) ∙ packed-held clock (applied clock area (held list)) }
+    go true s true t false a = absurd (let e : 16 ≡ 0 = ap (λ r. r .refusal) (refused-16 list clock area s t a) ∙ h in omega arith)
+    go true s false t a q = absurd (let e : 15 ≡ 0 = ap (λ r. r .refusal) (refused-15 list clock area s t) ∙ h in omega arith)
+    go false s t q a r = absurd (let e : 31 ≡ 0 = ap (λ r. r .refusal) (refused-31 list clock area s) ∙ h in omega arith)
+
+-- an option names the addresses that count where it acts, and none where it does not
+named-if : (v : List ℕ) → acts v ≡ true → namedBy v ≡ addresses v
+named-if v h = rw h
+
+-- the entries that no option names
+module _ (clock : Moment) (vs : List (List ℕ)) where
+  abbrev unnamed : Server → Bool
+  unnamed e = not (isNamed vs (e .address))
+
+  option-keeps : (l : List Server) (v : List ℕ) → ((a : Address6) → oneOf (λ b. servers .same b a) (namedBy v) ≡ true → isNamed vs a ≡ true) → Kept servers unnamed l (optionApplied clock l v)
+  unfolding optionApplied
+  option-keeps l v n =
+      cond-case (λ (m : List Server). Kept servers unnamed l m) (acts v)
+      (λ h.
+      all-kept servers lawful unnamed (eqb (lifetimeOf v .0) 0) (expiryAfter clock (lifetimeOf v)) (addresses v) l
+      (λ e o. ap not (n (e .address) (ap (oneOf (λ b. servers .same b (e .address))) (named-if v h) ∙ o))))
+      (λ _. same refl)
+
+  options-keep : (ws : List (List ℕ)) (l : List Server) → ((a : Address6) → isNamed ws a ≡ true → isNamed vs a ≡ true) → Kept servers unnamed l (foldl (optionApplied clock) l ws)
+  unfolding oneOf
+  options-keep [] l n = same refl
+  options-keep (v ∷ ws) l n =
+      then
+      (option-keeps l v (λ a t. n a (ap (λ (c : Bool). c || isNamed ws a) t)))
+      (options-keep ws (optionApplied clock l v) (λ a t. n a (ap (λ (c : Bool). oneOf (λ b. servers .same b a) (namedBy v) || c) t ∙ or-true (oneOf (λ b. servers .same b a) (namedBy v)))))
+
+pub keeps-unnamed : KeepsUnnamed
+keeps-unnamed list clock area h =
+    rw (unrefused list clock area h .gives) (options-keep clock (options 0 area) (options 0 area) (unexpired clock (held list)) (λ a t. t))
+
+-- an address that was withdrawn last
+module _ (clock : Moment) (a : Address6) where
+  stay-absent : (vs : List (List ℕ)) (l : List Server) → isNamed vs a ≡ false → isHeld servers a l ≡ false → isHeld servers a (foldl (optionApplied clock) l vs) ≡ false
+  unfolding oneOf
+  stay-absent [] l n h = h
+  stay-absent (v ∷ vs) l n h =
+      stay-absent vs (optionApplied clock l v) (or-right (oneOf (λ b. servers .same b a) (namedBy v)) (isNamed vs a) n) (option-absent l v (or-left (oneOf (λ b. servers .same b a) (namedBy v)) (isNamed vs a) n) h)
+    where
+      option-absent : (l : List Server) (v : List ℕ) → oneOf (λ b. servers .same b a) (namedBy v) ≡ false → isHeld servers a l ≡ false → isHeld servers a (optionApplied clock l v) ≡ false
+      option-absent l v n h = go (acts v) refl
+        where
+          go : (b : Bool) → acts v ≡ b → isHeld servers a (optionApplied clock l v) ≡ false
+          go true t = ap (isHeld servers a) (acting clock l v t) ∙ all-stay-absent servers lawful a (eqb (lifetimeOf v .0) 0) (expiryAfter clock (lifetimeOf v)) (addresses v) l (ap (oneOf (λ b. servers .same b a)) (sym (named-if v t)) ∙ n) h
+          go false t = ap (isHeld servers a) (ignored clock l v t) ∙ h
+
+  withdrawn-last : (l : List Server) (v : List ℕ) → distinct servers l ≡ true → isNamed (v ∷ []) a ≡ true → lifetimeOf v .0 ≡ 0 → isHeld servers a (optionApplied clock l v) ≡ false
+  unfolding oneOf
+  withdrawn-last l v d n z = go (acts v) refl
+    where
+      named : oneOf (λ b. servers .same b a) (namedBy v) ≡ true
+      named = sym (or-false (oneOf (λ b. servers .same b a) (namedBy v))) ∙ n
+
+      go : (b : Bool) → acts v ≡ b → isHeld servers a (optionApplied clock l v) ≡ false
+      go true t = ap (isHeld servers a) (withdraws clock l v t z) ∙ withdrawn-absent servers lawful a (addresses v) l (ap (oneOf (λ b. servers .same b a)) (sym (named-if v t)) ∙ named) d
+      go false t = absurd (false≢true (ap (λ (c : Bool). oneOf (λ b. servers .same b a) (cond c (addresses v) [])) (sym t) ∙ named))
+
+pub withdraws-last : WithdrawsLast
+withdraws-last list clock area h a before last after e n z f =
+    let r = unrefused list clock area h in
+    let u = unexpired clock (held list) in
+    let m = foldl (optionApplied clock) u before in
+    let d : distinct servers m ≡ true = and-left (distinct servers m) (each (λ e. isExpiry (expires e)) m) (options-sound clock before u (unexpired-sound clock (held list) (sound-orderly list (r .sound)))) in
+    ap (isHeld servers a) (r .gives ∙ ap (foldl (optionApplied clock) u) e ∙ foldl-append (optionApplied clock) u before (last ∷ after))
+    ∙ stay-absent clock a after (optionApplied clock m last) f (withdrawn-last clock a m last d n z)
