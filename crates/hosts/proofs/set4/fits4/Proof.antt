@@ -19,7 +19,7 @@ returns c =
     let s = c .before .before in
     let r : ltb (length (list4 (s .args .s))) 4 ≡ true =
     part-room oct (s .args .s .items) (s .args .s .count) (places4 (s .args .s) (s .good .0 .1 .1 .0 .1 .0 .1)) ∙ lt-ltb _ _ (c .if1 .taken) in
-    sym (ap (λ (b : Bool). member (s .args .a .octets) (list4 (s .args .s)) || b) r ∙ or-true _)
+    sym (ap (λ (b : Bool). member (s .args .a .octets) (list4 (s .args .s)) || b) r ∙ or-true (member (s .args .a .octets) (list4 (s .args .s))))
 
 has4-requires : tie.Need-has4-requires
 has4-requires c κs = search needs
@@ -29,7 +29,7 @@ returns-2 c =
     let s = c .before .before .before in
     let r : ltb (length (list4 (s .args .s))) 4 ≡ false =
     part-room oct (s .args .s .items) (s .args .s .count) (places4 (s .args .s) (s .good .0 .1 .1 .0 .1 .0 .1)) ∙ le-ltb _ _ (c .before .if1 .left) in
-    c .has4 .ensures ∙ sym (ap (λ (b : Bool). member (s .args .a .octets) (list4 (s .args .s)) || b) r ∙ or-false _)
+    c .has4 .ensures ∙ sym (ap (λ (b : Bool). member (s .args .a .octets) (list4 (s .args .s)) || b) r ∙ or-false (member (s .args .a .octets) (list4 (s .args .s))))
 
 pub fits4-spec : {M : Type 1} → statement M
 fits4-spec = tie.close (tie.spec returns has4-requires returns-2)

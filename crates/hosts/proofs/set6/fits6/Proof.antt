@@ -19,7 +19,7 @@ returns c =
     let s = c .before .before in
     let r : ltb (length (list6 (s .args .s))) 4 ≡ true =
     part-room oct (s .args .s .items) (s .args .s .count) (places6 (s .args .s) (s .good .0 .1 .1 .0 .1 .0 .1)) ∙ lt-ltb _ _ (c .if1 .taken) in
-    sym (ap (λ (b : Bool). member (s .args .a .octets) (list6 (s .args .s)) || b) r ∙ or-true _)
+    sym (ap (λ (b : Bool). member (s .args .a .octets) (list6 (s .args .s)) || b) r ∙ or-true (member (s .args .a .octets) (list6 (s .args .s))))
 
 has6-requires : tie.Need-has6-requires
 has6-requires c κs = search needs
@@ -29,7 +29,7 @@ returns-2 c =
     let s = c .before .before .before in
     let r : ltb (length (list6 (s .args .s))) 4 ≡ false =
     part-room oct (s .args .s .items) (s .args .s .count) (places6 (s .args .s) (s .good .0 .1 .1 .0 .1 .0 .1)) ∙ le-ltb _ _ (c .before .if1 .left) in
-    c .has6 .ensures ∙ sym (ap (λ (b : Bool). member (s .args .a .octets) (list6 (s .args .s)) || b) r ∙ or-false _)
+    c .has6 .ensures ∙ sym (ap (λ (b : Bool). member (s .args .a .octets) (list6 (s .args .s)) || b) r ∙ or-false (member (s .args .a .octets) (list6 (s .args .s))))
 
 pub fits6-spec : {M : Type 1} → statement M
 fits6-spec = tie.close (tie.spec returns has6-requires returns-2)
