@@ -130,10 +130,10 @@ pub fn empty4(s: Set4) -> bool
 pub fn fits4(s: Set4, a: Addr4) -> bool
     ensures { λ r. ⌜ r ≡ (member (a .octets) (list4 s) || ltb (length (list4 s)) 4) ⌝ }
 {
-    if has4(s, a) {
+    if s.count < 4 {
         return true;
     }
-    s.count < 4
+    has4(s, a)
 }
 
 // The set of no addresses.

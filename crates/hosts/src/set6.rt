@@ -130,10 +130,10 @@ pub fn empty6(s: Set6) -> bool
 pub fn fits6(s: Set6, a: Addr6) -> bool
     ensures { λ r. ⌜ r ≡ (member (a .octets) (list6 s) || ltb (length (list6 s)) 4) ⌝ }
 {
-    if has6(s, a) {
+    if s.count < 4 {
         return true;
     }
-    s.count < 4
+    has6(s, a)
 }
 
 // The set of no addresses.

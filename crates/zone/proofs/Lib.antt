@@ -6,3 +6,4 @@ pub mod ZoneLaws
 pub mod PlaceLaws
 pub mod DecideLaws
 pub mod PromiseLaws
+pub mod RequestLaws

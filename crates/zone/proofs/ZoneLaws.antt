@@ -110,6 +110,24 @@ module _ (f : Family) (h : Host) where
   unfolding left
   left-only g = refl
 
+-- what A makes of an absent name: its DHCID's, with the one address
+module _ (u : Update) where
+  pub new-owner : newHost u .owner ≡ some (u .dhcid)
+  unfolding newHost
+  new-owner = address-owner u true (record { owner = some (u .dhcid); addresses = λ f. nothing })
+
+  pub new-own : newHost u .addresses (u .family) .has (u .address) ≡ true
+  unfolding newHost
+  new-own = address-own u true (record { owner = some (u .dhcid); addresses = λ f. nothing })
+
+  pub new-other : (a : Octets) → ¬ (u .address ≡ a) → newHost u .addresses (u .family) .has a ≡ false
+  unfolding newHost
+  new-other a n = address-other u true (record { owner = some (u .dhcid); addresses = λ f. nothing }) a n
+
+  pub new-family : (f : Family) → ¬ (u .family ≡ f) → newHost u .addresses f ≡ nothing
+  unfolding newHost
+  new-family f n = address-family u true (record { owner = some (u .dhcid); addresses = λ f. nothing }) f n
+
 -- ---- hosts in form
 
 good-nothing : (o : Option Octets) → GoodHost (record { owner = o; addresses = λ f. nothing })
