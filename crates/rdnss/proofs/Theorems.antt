@@ -1,7 +1,7 @@
 -- The claims of specs/Claims.antt, proved. Assumes nothing.
 use mathlib.Core.Path.{_≡_, refl, ap, sym, _∙_}
 use mathlib.Core.Bool.{Bool, true, false, not, cond, _&&_, _||_, or-false, or-true, false≢true}
-use mathlib.Core.List.{List, [], _∷_, foldl, foldl-append}
+use mathlib.Core.List.{List, [], _∷_, map, foldl, foldl-append}
 use Prim.Native.Nat.{ℕ, _≤_, _<_}
 use native.Mathlib.Omega.{arith}
 use lib.Dec.{leb, eqb}
@@ -9,17 +9,16 @@ use lib.ListN.{length}
 use borrow.Author.Tests.{le-leb}
 use Rattle.clock.specs.Clock.{isMoment, isExpiry, isPast, expiryAfter}
 use Rattle.clock.specs.declared.Moment.{Moment}
-use Rattle.rdnss.specs.Entries.{Kind, places, oneOf, each, isHeld, distinct, evicted}
+use Rattle.rdnss.specs.Entries.{Kind, places, unmarked, oneOf, each, isHeld, distinct, evicted}
 use Rattle.rdnss.specs.Area.{options, isArea, acts, lifetimeOf, addresses}
 use Rattle.rdnss.specs.ServerList.{servers, held, packed, expires, isSound, isTimely, unexpired, optionApplied, applied, serverList}
-use Rattle.rdnss.specs.Claims.{Evicts, EvictsFirst, StaysSound, namedBy, isNamed, Kept, KeepsUnnamed, WithdrawsLast}
-use Rattle.rdnss.specs.Claims.Kept.{same, then}
+use Rattle.rdnss.specs.Claims.{Evicts, EvictsFirst, StaysSound, namedBy, isNamed, KeepsOptions, KeepsUnnamed, WithdrawsLast}
 use Rattle.rdnss.specs.declared.Address6.{Address6}
 use Rattle.rdnss.specs.declared.Server.{Server}
 use Rattle.rdnss.specs.declared.ServerList.{ServerList}
 use Rattle.rdnss.proofs.EntryLaws.{Ordered, cond-case, and-both, and-left, and-right, or-left, or-right, one-some, each-cons, itself, before-all, through}
 use Rattle.rdnss.proofs.SoundLaws.{part-each, part-distinct, keep-part}
-use Rattle.rdnss.proofs.NamingLaws.{all-distinct, all-each, all-stay-absent, all-kept, withdrawn-absent}
+use Rattle.rdnss.proofs.NamingLaws.{all-distinct, all-each, all-stay-absent, keys-kept, withdrawn-absent}
 use Rattle.rdnss.proofs.ServerLaws.{ordered, lawful, is-expiry-after}
 use Rattle.rdnss.proofs.PackLaws.{packed-held}
 use Rattle.rdnss.proofs.CallLaws.{orderly, refused-31, refused-15, refused-16, accepted, sound-count, unexpired-fits, ignored, acting, withdraws, option-fits}
@@ -131,26 +130,18 @@ module _ (clock : Moment) (vs : List (List ℕ)) where
   abbrev unnamed : Server → Bool
   unnamed e = not (isNamed vs (e .address))
 
-  option-keeps : (l : List Server) (v : List ℕ) → ((a : Address6) → oneOf (λ b. servers .same b a) (namedBy v) ≡ true → isNamed vs a ≡ true) → Kept servers unnamed l (optionApplied clock l v)
-  unfolding optionApplied
-  option-keeps l v n =
-      cond-case (λ (m : List Server). Kept servers unnamed l m) (acts v)
-      (λ h.
-      all-kept servers lawful unnamed (eqb (lifetimeOf v .0) 0) (expiryAfter clock (lifetimeOf v)) (addresses v) l
-      (λ e o. ap not (n (e .address) (ap (oneOf (λ b. servers .same b (e .address))) (named-if v h) ∙ o))))
-      (λ _. same refl)
-
-  options-keep : (ws : List (List ℕ)) (l : List Server) → ((a : Address6) → isNamed ws a ≡ true → isNamed vs a ≡ true) → Kept servers unnamed l (foldl (optionApplied clock) l ws)
+  options-keep : (ws : List (List ℕ)) (l : List Server) → ((a : Address6) → isNamed ws a ≡ true → isNamed vs a ≡ true) → KeepsOptions unnamed clock l ws
   unfolding oneOf
-  options-keep [] l n = same refl
-  options-keep (v ∷ ws) l n =
-      then
-      (option-keeps l v (λ a t. n a (ap (λ (c : Bool). c || isNamed ws a) t)))
-      (options-keep ws (optionApplied clock l v) (λ a t. n a (ap (λ (c : Bool). oneOf (λ b. servers .same b a) (namedBy v) || c) t ∙ or-true (oneOf (λ b. servers .same b a) (namedBy v)))))
+  options-keep [] l n = tt
+  options-keep (v ∷ ws) l n = (
+    (λ h.
+        keys-kept servers lawful unnamed (eqb (lifetimeOf v .0) 0) (expiryAfter clock (lifetimeOf v)) (addresses v) (map unmarked l)
+        (λ e o. ap not (n (e .address) (ap (λ (c : Bool). c || isNamed ws (e .address)) (ap (oneOf (λ b. servers .same b (e .address))) (named-if v h) ∙ o))))),
+    options-keep ws (optionApplied clock l v) (λ a t. n a (ap (λ (c : Bool). oneOf (λ b. servers .same b a) (namedBy v) || c) t ∙ or-true (oneOf (λ b. servers .same b a) (namedBy v)))),
+  )
 
 pub keeps-unnamed : KeepsUnnamed
-keeps-unnamed list clock area h =
-    rw (unrefused list clock area h .gives) (options-keep clock (options 0 area) (options 0 area) (unexpired clock (held list)) (λ a t. t))
+keeps-unnamed list clock area h = (options-keep clock (options 0 area) (options 0 area) (unexpired clock (held list)) (λ a t. t), unrefused list clock area h .gives)
 
 -- an address that was withdrawn last
 module _ (clock : Moment) (a : Address6) where

@@ -1,13 +1,15 @@
 -- What follows from the rules, in words that a reader of document 01, "Server list", wants. Each claim is proved in proofs/Theorems.antt.
 use mathlib.Core.Bool.{Bool, true, false, not, cond}
-use mathlib.Core.List.{List, [], _∷_, _++_}
+use mathlib.Core.List.{List, [], _∷_, _++_, map, foldl}
 use mathlib.Core.Path.{_≡_}
 use Prim.Native.Nat.{ℕ, _≤_, _<_}
+use lib.Dec.{eqb}
 use lib.ListN.{length}
+use Rattle.clock.specs.Clock.{expiryAfter}
 use Rattle.clock.specs.declared.Moment.{Moment}
-use Rattle.rdnss.specs.Entries.{Kind, places, keep, oneOf, each, isHeld, evicted}
+use Rattle.rdnss.specs.Entries.{Kind, Marked, places, keep, oneOf, each, isHeld, evicted, unmarked, named}
 use Rattle.rdnss.specs.Area.{options, acts, lifetimeOf, addresses}
-use Rattle.rdnss.specs.ServerList.{servers, held, isSound, unexpired, serverList}
+use Rattle.rdnss.specs.ServerList.{servers, held, isSound, unexpired, optionApplied, serverList}
 use Rattle.rdnss.specs.declared.Address6.{Address6}
 use Rattle.rdnss.specs.declared.Server.{Server}
 use Rattle.rdnss.specs.declared.ServerList.{ServerList}
@@ -37,18 +39,31 @@ namedBy option = cond (acts option) (addresses option) []
 abbrev pub isNamed : List (List ℕ) → Address6 → Bool
 isNamed vs a = oneOf (λ v. oneOf (λ b. servers .same b a) (namedBy v)) vs
 
--- From one list to another by steps, each of which leaves the entries that pass a test as they are and in their order, or is an eviction from a list without room.
 module _ {K X E : Type 0} (kind : Kind K X E) (test : E → Bool) where
-  pub data Kept : List E → List E → Type 0 where
-    same : {l m : List E} → keep test l ≡ keep test m → Kept l m
-    evicts : {l : List E} → places ≤ length l → Kept l (evicted kind l)
-    then : {l m n : List E} → Kept l m → Kept m n → Kept l n
+  -- From one list to the next: the entries that pass the test stay as they are and in their order; or the list had no room, and they are those that an eviction leaves.
+  pub data Keeps : List E → List E → Type 0 where
+    same : {l m : List E} → keep test m ≡ keep test l → Keeps l m
+    evicts : {l m : List E} → places ≤ length l → keep test m ≡ keep test (evicted kind l) → Keeps l m
 
--- An entry that no option names keeps its expiry and its order among such entries, unless it expires or is evicted.
+  -- So it is at each key of an option.
+  abbrev pub KeepsKeys : Bool → X → List (Marked E) → List K → Type 0
+  KeepsKeys withdraws x l [] = Unit {0}
+  KeepsKeys withdraws x l (k ∷ keys) =
+      Keeps (map (λ m. m .item) l) (map (λ m. m .item) (named kind withdraws x l k)) × KeepsKeys withdraws x (named kind withdraws x l k) keys
+
+-- So it is at each option that acts; one that does not act changes nothing.
+abbrev pub KeepsOptions : (Server → Bool) → Moment → List Server → List (List ℕ) → Type 0
+KeepsOptions test clock l [] = Unit {0}
+KeepsOptions test clock l (v ∷ vs) =
+    (acts v ≡ true → KeepsKeys servers test (eqb (lifetimeOf v .0) 0) (expiryAfter clock (lifetimeOf v)) (map unmarked l) (addresses v))
+    × KeepsOptions test clock (optionApplied clock l v) vs
+
+-- An entry that no option names keeps its expiry and its order among such entries, unless it expires or is evicted: from the unexpired entries on, at each step to the list that the call gives.
 abbrev pub KeepsUnnamed : Type 0
 KeepsUnnamed =
     (list : ServerList) (clock : Moment) (area : List ℕ) → serverList list clock area .refusal ≡ 0
-    → Kept servers (λ e. not (isNamed (options 0 area) (e .address))) (unexpired clock (held list)) (held (serverList list clock area .list))
+    → KeepsOptions (λ e. not (isNamed (options 0 area) (e .address))) clock (unexpired clock (held list)) (options 0 area)
+    × (held (serverList list clock area .list) ≡ foldl (optionApplied clock) (unexpired clock (held list)) (options 0 area))
 
 -- An address whose last naming had Lifetime 0 is absent.
 abbrev pub WithdrawsLast : Type 0
