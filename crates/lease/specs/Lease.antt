@@ -3,9 +3,9 @@ use Prim.Native.Nat.{ℕ}
 use mathlib.Core.Bool.{Bool, true, false, _&&_, _||_, not}
 use mathlib.Core.List.{List, [], _∷_}
 use lib.Dec.{ltb, leb, eqb}
-use lib.ListN.{take, drop}
+use lib.ListN.{take, drop, replicate}
 use Rattle.clock.specs.declared.Moment.{Moment}
-use Rattle.clock.specs.Clock.{isMoment, isExpiry, isAhead}
+use Rattle.clock.specs.Clock.{moment, isMoment, isExpiry, isAhead}
 use Rattle.octets.specs.Compare.{sameOctets}
 use Rattle.lease.specs.declared.Lease.{Lease}
 use Rattle.lease.specs.declared.Rank.{Rank}
@@ -51,3 +51,20 @@ rankOf x = record { last = x .last; address = x .address }
 
 unfoldable pub ranksBefore : Rank → Rank → Bool
 ranksBefore x y = ltb (y .last .0) (x .last .0) || (not (ltb (x .last .0) (y .last .0)) && ltb (x .address) (y .address))
+
+-- The record that stands for none.
+unfoldable pub noLease : Lease
+noLease =
+    record {
+      last = moment 0;
+      expiry = moment 0;
+      chaddr = replicate 16 0;
+      id = replicate 64 0;
+      relay = replicate 64 0;
+      address = 0;
+      state = 0;
+      htype = 0;
+      hlen = 0;
+      idlen = 0;
+      relaylen = 0;
+    }
