@@ -111,18 +111,18 @@ active-short clock server q x addresses p r h =
 
 -- ---- what a writer did, by whether query and buffer are long enough
 module _ (q b : List ℕ) where
-  pub fits-not-query : (w : List ℕ) → length q < 240 → (_≡_ {A = ℕ} 0 (length (fitting q b w))) × (b ≡ laid (fitting q b w) b)
+  pub fits-not-query : (w : List ℕ) → length q < 240 → (_≡_ {A = ℕ} 0 (length (fitting q b w))) × (b ≡ laid (fitting q b w) b) × (0 ≤ 648)
   unfolding laid
-  fits-not-query w h = (rw (lt-ltb (length q) 240 h), rw (lt-ltb (length q) 240 h))
+  fits-not-query w h = (rw (lt-ltb (length q) 240 h), rw (lt-ltb (length q) 240 h), omega arith)
 
-  pub fits-not-buffer : (w : List ℕ) → 240 ≤ length q → length b < 648 → (_≡_ {A = ℕ} 0 (length (fitting q b w))) × (b ≡ laid (fitting q b w) b)
+  pub fits-not-buffer : (w : List ℕ) → 240 ≤ length q → length b < 648 → (_≡_ {A = ℕ} 0 (length (fitting q b w))) × (b ≡ laid (fitting q b w) b) × (0 ≤ 648)
   unfolding laid
-  fits-not-buffer w h k = (rw (le-ltb (length q) 240 h, lt-ltb (length b) 648 k), rw (le-ltb (length q) 240 h, lt-ltb (length b) 648 k))
+  fits-not-buffer w h k = (rw (le-ltb (length q) 240 h, lt-ltb (length b) 648 k), rw (le-ltb (length q) 240 h, lt-ltb (length b) 648 k), omega arith)
 
-  pub fits : (w l : List ℕ) (n : ℕ) → 240 ≤ length q → 648 ≤ length b → length w ≤ 648 → WroteIf b 0 w l n → (n ≡ length (fitting q b w)) × (l ≡ laid (fitting q b w) b)
+  pub fits : (w l : List ℕ) (n : ℕ) → 240 ≤ length q → 648 ≤ length b → length w ≤ 648 → WroteIf b 0 w l n → (n ≡ length (fitting q b w)) × (l ≡ laid (fitting q b w) b) × (n ≤ 648)
   fits w l n h k s v =
       let r = v .fit (omega arith) in
-      rw (le-ltb (length q) 240 h, le-ltb (length b) 648 k) (r .next ∙ zero-add (length w), r .list ∙ put-front b w)
+      rw (le-ltb (length q) 240 h, le-ltb (length b) 648 k) (r .next ∙ zero-add (length w), r .list ∙ put-front b w, omega (arith, r .next, s))
 
 or-right : (a b : Bool) → (a || b) ≡ false → b ≡ false
 or-right true b e = cc

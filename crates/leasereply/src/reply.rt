@@ -64,7 +64,7 @@ fn put_active(
 
 // The reply to a query that is not about an active lease, if query and buffer are long enough.
 pub fn write_other(buf: &mut [u8], kind: u8, server: u32, query: &[u8]) -> usize
-    ensures { λ r. ⌜ (r ≡ length (fitting (now (query .entry)) (now (buf .entry)) (otherReply kind server (now (query .entry))))) × (now (buf .exit) ≡ laid (fitting (now (query .entry)) (now (buf .entry)) (otherReply kind server (now (query .entry)))) (now (buf .entry))) ⌝ }
+    ensures { λ r. ⌜ (r ≡ length (fitting (now (query .entry)) (now (buf .entry)) (otherReply kind server (now (query .entry))))) × (now (buf .exit) ≡ laid (fitting (now (query .entry)) (now (buf .entry)) (otherReply kind server (now (query .entry)))) (now (buf .entry))) × (r ≤ 648) ⌝ }
 {
     if query.len() < 240 {
         return 0;
@@ -85,7 +85,7 @@ pub fn write_active(
     ranks: [Rank; 63],
     n: usize,
 ) -> usize
-    ensures { λ r. ⌜ (r ≡ length (fitting (now (query .entry)) (now (buf .entry)) (activeReply clock server (now (query .entry)) x (listed n ranks)))) × (now (buf .exit) ≡ laid (fitting (now (query .entry)) (now (buf .entry)) (activeReply clock server (now (query .entry)) x (listed n ranks))) (now (buf .entry))) ⌝ }
+    ensures { λ r. ⌜ (r ≡ length (fitting (now (query .entry)) (now (buf .entry)) (activeReply clock server (now (query .entry)) x (listed n ranks)))) × (now (buf .exit) ≡ laid (fitting (now (query .entry)) (now (buf .entry)) (activeReply clock server (now (query .entry)) x (listed n ranks))) (now (buf .entry))) × (r ≤ 648) ⌝ }
 {
     if query.len() < 240 {
         return 0;

@@ -56,6 +56,7 @@ unfoldable pub huntAdd : Hunt → Lease → Hunt
 huntAdd h x =
     cond (ltb 63 (h .kept)) h
     (record {
+      refusal = h .refusal;
       clock = h .clock;
       key = h .key;
       kept = min (h .kept + 1) 63;

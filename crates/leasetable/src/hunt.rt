@@ -22,6 +22,8 @@ pub struct Key {
 // What was found among the records passed. By address, `best` is the record of that address. By client
 // it is the active lease of the client that ranks first, and `ranks` has the ranks of the first 63.
 pub struct Hunt {
+    // The refusal because of which nothing is looked for, or 0.
+    pub refusal: u32,
     pub clock: Moment,
     pub key: Key,
     pub kept: usize,
@@ -119,6 +121,7 @@ fn with_record(h: Hunt, x: Lease) -> Hunt
     let best = best_of(h.kept, earlier, x);
     let kept = one_more(h.kept);
     Hunt {
+        refusal: h.refusal,
         clock,
         key,
         kept,
