@@ -1,0 +1,20 @@
+use borrow.Author.Tests.{eq-eqb, ne-eqb, le-leb, lt-leb, lt-ltb, le-ltb, not-true, not-false}
+use mathlib.Core.Path.{_≡_, sym, _∙_}
+use Rattle.lease.specs.Lease.{activeAt}
+use borrow.Author.Needs.{needs}
+use Rattle.lease.proofs.key.is_active.Statement.{statement}
+use Rattle.lease.proofs.key.is_active.Tie as tie
+
+returns : tie.Need-returns
+unfolding activeAt
+returns c = simp (ne-eqb _ _ (c .if1 .taken))
+
+is-ahead-requires : tie.Need-is-ahead-requires
+is-ahead-requires c κs = search needs
+
+returns-2 : tie.Need-returns-2
+unfolding activeAt
+returns-2 c = simp (eq-eqb _ _ (c .before .before .if1 .left)) (c .is-ahead .ensures)
+
+pub is-active-spec : {M : Type 1} → statement M
+is-active-spec = tie.close (tie.spec returns is-ahead-requires returns-2)

@@ -1,0 +1,153 @@
+-- The claims of specs/Claims.antt. Assumes nothing.
+use Prim.Native.Nat.{ℕ, zero, suc, _+_, _≤_, _<_}
+use mathlib.Core.Path.{_≡_, refl, sym, ap, _∙_, subst}
+use mathlib.Core.Bool.{Bool, true, false, cond, not, _&&_}
+use mathlib.Core.List.{List, [], _∷_, map, headD}
+use mathlib.Core.Logic.{_⊎_, inl, inr}
+use native.Mathlib.Omega.{arith}
+use lib.Dec.{ltb, leb}
+use lib.ListN.{length, getD, take, length-take, length-map}
+use Rattle.clock.specs.declared.Moment.{Moment}
+use Rattle.clock.specs.Clock.{isMoment}
+use Rattle.lease.specs.declared.Lease.{Lease}
+use Rattle.lease.specs.Lease.{noLease, activeAt, hasHardware, hasClientId, rankOf, ranksBefore, wellFormed, lengthsFit}
+use Rattle.leasepacket.specs.Query.{Asked, refused, byAddress, byHardware, byClientId, asking}
+use Rattle.leasetable.specs.Table.{tableFits, those, ranked}
+use Rattle.leasereply.specs.Reply.{otherReply, activeReply}
+use Rattle.leasequery.specs.Answer.{Outcome, refusal, reply, told, written, hasKey, byAddressOf, byClientOf, leasesOf, answerBy, askedOf, answer}
+use Rattle.leaseclaims.specs.Claims.{Call, ActiveAt, NoneActive, UnknownExactly, Demand2, ByClient, NeverUnassigned, Named, NamesTheBest}
+use Rattle.leaseclaims.proofs.ListLaws.{bcase, those-none, none-those, ranked-length, none-before, StandsAt, head-stands}
+
+-- ---- what was asked, where there is no refusal
+asked-is : (clock : Moment) (t : List Lease) (server : ℕ) (q : List ℕ) (room : ℕ) → told (answer clock t server q room) .refusal ≡ 0 → askedOf clock t q room ≡ asking q
+unfolding answer askedOf answerBy
+asked-is clock t server q room r =
+    bcase (not (isMoment clock)) (λ e. absurd (let z : _≡_ {A = ℕ} 15 0 = rw e at r in omega arith))
+    (λ e. bcase (not (tableFits t)) (λ f. absurd (let z : _≡_ {A = ℕ} 9 0 = rw (e, f) at r in omega arith))
+    (λ f. bcase (ltb room 648) (λ g. absurd (let z : _≡_ {A = ℕ} 8 0 = rw (e, f, g) at r in omega arith))
+    (λ g. rw (e, f, g))))
+
+answer-is : (c : Call) → c .result .refusal ≡ 0 → answer (c .clock) (c .table) (c .server) (c .query) (length (c .buffer)) ≡ answerBy (c .clock) (c .server) (c .query) (asking (c .query)) (c .table)
+unfolding answer
+answer-is c r =
+    ap (λ (k : Asked). answerBy (c .clock) (c .server) (c .query) k (c .table))
+    (asked-is (c .clock) (c .table) (c .server) (c .query) (length (c .buffer)) (sym (ap (λ a. a .refusal) (c .answers)) ∙ r))
+
+-- ---- the leases of a client
+and-both : {a b : Bool} → a ≡ true → b ≡ true → (a && b) ≡ true
+and-both p q = rw (p, q)
+
+and-left : (a b : Bool) → (a && b) ≡ true → a ≡ true
+and-left true b e = refl
+and-left false b e = e
+
+and-right : (a b : Bool) → (a && b) ≡ true → b ≡ true
+and-right true b e = e
+and-right false b e = cc
+
+empty : (l : List Lease) → length l ≡ 0 → l ≡ []
+empty [] e = refl
+empty (x ∷ xs) e = absurd (omega arith)
+
+module _ (clock : Moment) (server : ℕ) (q : List ℕ) where
+  kind-12 : (l : List Lease) → told (byClientOf clock server q l) .kind ≡ 12 → l ≡ []
+  unfolding byClientOf
+  kind-12 [] e = refl
+  kind-12 (x ∷ []) e = absurd (omega (arith, e))
+  kind-12 (x ∷ y ∷ ys) e = absurd (omega (arith, e))
+
+  kind-none : (l : List Lease) → l ≡ [] → told (byClientOf clock server q l) .kind ≡ 12
+  unfolding byClientOf
+  kind-none l e = rw e
+
+  kind-not-11 : (l : List Lease) → told (byClientOf clock server q l) .kind ≡ 11 → ⊥
+  unfolding byClientOf
+  kind-not-11 [] e = omega (arith, e)
+  kind-not-11 (x ∷ []) e = omega (arith, e)
+  kind-not-11 (x ∷ y ∷ ys) e = omega (arith, e)
+
+-- ---- a call by a client whose key is known
+module _ (c : Call) (key : Asked) where
+  abbrev test : Lease → Bool
+  test x = activeAt (c .clock) x && hasKey key x
+
+  abbrev leases : List Lease
+  leases = ranked (those test (c .table))
+
+  none-iff : told (byClientOf (c .clock) (c .server) (c .query) leases) .kind ≡ 12 → NoneActive c (hasKey key)
+  none-iff e i a =
+      let l : length leases ≡ 0 = ap length (kind-12 (c .clock) (c .server) (c .query) leases e) in
+      let n : those test (c .table) ≡ [] = empty (those test (c .table)) (sym (ranked-length (those test (c .table))) ∙ l) in
+      those-none test (c .table) n i (a .inside) (and-both (a .active) (a .has))
+
+  iff-none : NoneActive c (hasKey key) → told (byClientOf (c .clock) (c .server) (c .query) leases) .kind ≡ 12
+  iff-none n =
+      let z : those test (c .table) ≡ [] = none-those test (c .table) (λ i h w. n i (record { inside = h; active = and-left (activeAt (c .clock) (getD (c .table) i noLease)) (hasKey key (getD (c .table) i noLease)) w; has = and-right (activeAt (c .clock) (getD (c .table) i noLease)) (hasKey key (getD (c .table) i noLease)) w })) in
+      let l : length leases ≡ 0 = ranked-length (those test (c .table)) ∙ ap length z in
+      kind-none (c .clock) (c .server) (c .query) leases (empty leases l)
+
+  exactly : c .result .kind ≡ told (byClientOf (c .clock) (c .server) (c .query) leases) .kind → UnknownExactly c (hasKey key)
+  exactly e = (λ k. none-iff (sym e ∙ k), λ n. e ∙ iff-none n)
+
+  -- the first of the ranked is the one that is named
+  names : (x : Lease) (xs : List Lease) → leases ≡ x ∷ xs → (as₁ : List ℕ) → written (answer (c .clock) (c .table) (c .server) (c .query) (length (c .buffer))) ≡ activeReply (c .clock) (c .server) (c .query) x as₁ → Named c key
+  unfolding headD
+  names x xs e as₁ w =
+      let s : StandsAt test (c .table) x = head-stands test (c .table) x xs e in
+      let i = s .0 in
+      let y = getD (c .table) i noLease in
+      let t : test y ≡ true = ap test (s .2) ∙ s .3 in
+      record {
+        place = i;
+        active = record { inside = s .1; active = and-left (activeAt (c .clock) y) (hasKey key y) t; has = and-right (activeAt (c .clock) y) (hasKey key y) t };
+        first = λ j a. ap (λ (z : Lease). ranksBefore (rankOf (getD (c .table) j noLease)) (rankOf z)) (s .2 ∙ sym (ap (λ (l : List Lease). headD l noLease) e)) ∙ none-before test (c .table) j (a .inside) (and-both (a .active) (a .has));
+        addresses = as₁;
+        tells = w ∙ ap (λ (z : Lease). activeReply (c .clock) (c .server) (c .query) z as₁) (sym (s .2));
+      }
+
+  named : (l : List Lease) → leases ≡ l → written (answer (c .clock) (c .table) (c .server) (c .query) (length (c .buffer))) ≡ written (byClientOf (c .clock) (c .server) (c .query) l) → told (byClientOf (c .clock) (c .server) (c .query) l) .kind ≡ 13 → Named c key
+  unfolding byClientOf headD
+  named [] e w k = absurd (omega (arith, k))
+  named (x ∷ []) e w k = names x [] e [] w
+  named (x ∷ y ∷ ys) e w k = names x (y ∷ ys) e (take 63 (map (λ z. z .address) (x ∷ y ∷ ys))) w
+
+-- ---- demand 2
+client-hardware : (c : Call) (htype hlen : ℕ) (o : List ℕ) → c .result .refusal ≡ 0 → asking (c .query) ≡ byHardware htype hlen o → answer (c .clock) (c .table) (c .server) (c .query) (length (c .buffer)) ≡ byClientOf (c .clock) (c .server) (c .query) (leases c (byHardware htype hlen o))
+unfolding answerBy
+client-hardware c htype hlen o r a = answer-is c r ∙ ap (λ (k : Asked). answerBy (c .clock) (c .server) (c .query) k (c .table)) a
+
+client-id : (c : Call) (o : List ℕ) → c .result .refusal ≡ 0 → asking (c .query) ≡ byClientId o → answer (c .clock) (c .table) (c .server) (c .query) (length (c .buffer)) ≡ byClientOf (c .clock) (c .server) (c .query) (leases c (byClientId o))
+unfolding answerBy
+client-id c o r a = answer-is c r ∙ ap (λ (k : Asked). answerBy (c .clock) (c .server) (c .query) k (c .table)) a
+
+pub demand-2 : Demand2
+unfolding hasKey
+demand-2 = record {
+  by-hardware = λ c htype hlen o r a. exactly c (byHardware htype hlen o) (ap (λ x. x .kind) (c .answers) ∙ ap (λ (w : Outcome). told w .kind) (client-hardware c htype hlen o r a));
+  by-client-id = λ c o r a. exactly c (byClientId o) (ap (λ x. x .kind) (c .answers) ∙ ap (λ (w : Outcome). told w .kind) (client-id c o r a));
+}
+
+-- ---- kinds of answer: a refusal has the kind 0
+refusal-zero : (w : Outcome) (k : ℕ) → 0 < k → told w .kind ≡ k → told w .refusal ≡ 0
+refusal-zero (refusal n) k h e = absurd (omega (arith, e))
+refusal-zero (reply j o) k h e = refl
+
+no-refusal : (c : Call) (k : ℕ) → 0 < k → c .result .kind ≡ k → c .result .refusal ≡ 0
+no-refusal c k h e =
+    ap (λ x. x .refusal) (c .answers) ∙ refusal-zero (answer (c .clock) (c .table) (c .server) (c .query) (length (c .buffer))) k h (sym (ap (λ x. x .kind) (c .answers)) ∙ e)
+
+pub never-unassigned : NeverUnassigned
+never-unassigned c (inl (htype, hlen, o, a)) e =
+    kind-not-11 (c .clock) (c .server) (c .query) (leases c (byHardware htype hlen o))
+    (sym (ap (λ (w : Outcome). told w .kind) (client-hardware c htype hlen o (no-refusal c 11 (omega arith) e) a)) ∙ sym (ap (λ x. x .kind) (c .answers)) ∙ e)
+never-unassigned c (inr (o, a)) e =
+    kind-not-11 (c .clock) (c .server) (c .query) (leases c (byClientId o))
+    (sym (ap (λ (w : Outcome). told w .kind) (client-id c o (no-refusal c 11 (omega arith) e) a)) ∙ sym (ap (λ x. x .kind) (c .answers)) ∙ e)
+
+pub names-the-best : NamesTheBest
+names-the-best c (inl (htype, hlen, o, a)) e =
+    let d = client-hardware c htype hlen o (no-refusal c 13 (omega arith) e) a in
+    subst (Named c) (sym a) (named c (byHardware htype hlen o) (leases c (byHardware htype hlen o)) refl (ap written d) (sym (ap (λ (w : Outcome). told w .kind) d) ∙ sym (ap (λ x. x .kind) (c .answers)) ∙ e))
+names-the-best c (inr (o, a)) e =
+    let d = client-id c o (no-refusal c 13 (omega arith) e) a in
+    subst (Named c) (sym a) (named c (byClientId o) (leases c (byClientId o)) refl (ap written d) (sym (ap (λ (w : Outcome). told w .kind) d) ∙ sym (ap (λ x. x .kind) (c .answers)) ∙ e))

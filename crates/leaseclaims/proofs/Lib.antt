@@ -1,0 +1,3 @@
+-- The claims, proved.
+pub mod ListLaws
+pub mod Claims

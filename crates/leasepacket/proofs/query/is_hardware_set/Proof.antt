@@ -1,0 +1,53 @@
+use borrow.Author.Tests.{eq-eqb, ne-eqb, le-leb, lt-leb, lt-ltb, le-ltb, not-true, not-false}
+use mathlib.Core.Path.{_≡_, sym, _∙_, ap, refl, subst}
+use Rattle.leasepacket.specs.Query.{hardwareSet}
+use borrow.Author.Needs.{needs}
+use Rattle.leasepacket.proofs.query.is_hardware_set.Statement.{statement}
+use Rattle.leasepacket.proofs.query.is_hardware_set.Tie as tie
+
+sub-is-any-set : tie.Need-sub-is-any-set
+sub-is-any-set c = search needs
+
+part-is-any-set-start : tie.Need-part-is-any-set-start
+part-is-any-set-start c = search needs
+
+part-is-any-set-end : tie.Need-part-is-any-set-end
+part-is-any-set-end c = search needs
+
+is-any-set-requires : tie.Need-is-any-set-requires
+is-any-set-requires c κs = search needs
+
+returns : tie.Need-returns
+unfolding hardwareSet
+returns c = simp (sym (c .before .is-any-set .ensures) ∙ c .if1 .taken)
+
+sub-is-any-set-2 : tie.Need-sub-is-any-set-2
+sub-is-any-set-2 c = search needs
+
+part-is-any-set-start-2 : tie.Need-part-is-any-set-start-2
+part-is-any-set-start-2 c = search needs
+
+part-is-any-set-end-2 : tie.Need-part-is-any-set-end-2
+part-is-any-set-end-2 c = search needs
+
+is-any-set-requires-2 : tie.Need-is-any-set-requires-2
+is-any-set-requires-2 c κs = search needs
+
+returns-2 : tie.Need-returns-2
+unfolding hardwareSet
+returns-2 c = simp (sym (c .before .before .before .is-any-set .ensures) ∙ c .before .before .if1 .left) (c .is-any-set2 .ensures)
+
+pub is-hardware-set-spec : {M : Type 1} → statement M
+is-hardware-set-spec =
+    tie.close
+    (tie.spec
+    sub-is-any-set
+    part-is-any-set-start
+    part-is-any-set-end
+    is-any-set-requires
+    returns
+    sub-is-any-set-2
+    part-is-any-set-start-2
+    part-is-any-set-end-2
+    is-any-set-requires-2
+    returns-2)

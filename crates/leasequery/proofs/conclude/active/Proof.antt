@@ -1,0 +1,23 @@
+use borrow.Author.Tests.{eq-eqb, ne-eqb, le-leb, lt-leb, lt-ltb, le-ltb, not-true, not-false}
+use mathlib.Core.Path.{_≡_, sym, _∙_, ap, refl}
+use Rattle.leasequery.specs.Answer.{told, written}
+use borrow.Author.Needs.{needs}
+use Rattle.leasequery.proofs.conclude.active.Statement.{statement}
+use Rattle.leasequery.proofs.conclude.active.Tie as tie
+
+write-active-requires : tie.Need-write-active-requires
+write-active-requires c κs = search needs
+
+replied-requires : tie.Need-replied-requires
+replied-requires c κs = search needs
+
+same-length : tie.Need-same-length
+same-length c = search needs
+
+returns : tie.Need-returns
+returns c =
+    let w = c .before .before .before .write-active .ensures in
+    (c .replied .ensures ∙ ap (λ n. record { refusal = 0; kind = 13; length = n }) (w .0), w .1)
+
+pub active-spec : {M : Type 1} → statement M
+active-spec = tie.close (tie.spec write-active-requires replied-requires same-length returns)

@@ -1,0 +1,70 @@
+-- What the inner functions hand on. Only their contracts cite this.
+use Prim.Native.Nat.{ℕ, min}
+use mathlib.Core.Bool.{Bool, true, false, cond, not}
+use mathlib.Core.List.{List, [], _∷_}
+use lib.Dec.{ltb, eqb}
+use lib.ListN.{length, replicate}
+use Rattle.clock.specs.declared.Moment.{Moment}
+use Rattle.clock.specs.Clock.{moment, isMoment}
+use Rattle.octets.specs.Write.{laid}
+use Rattle.lease.specs.declared.Lease.{Lease}
+use Rattle.lease.specs.declared.Rank.{Rank}
+use Rattle.lease.specs.Lease.{activeAt, noLease}
+use Rattle.leasepacket.specs.Query.{Asked, refused, byAddress, byHardware, byClientId, asking}
+use Rattle.leasetable.specs.declared.hunt.Key.{Key}
+use Rattle.leasetable.specs.declared.hunt.Hunt.{Hunt}
+use Rattle.leasereply.specs.Reply.{otherReply, activeReply, listed, fitting}
+use Rattle.leasequery.specs.Answer.{Outcome, refusal, reply}
+
+-- octets at the front of 64; of more than 64, none
+unfoldable pub padded : List ℕ → List ℕ
+padded octets = cond (ltb 64 (length octets)) (replicate 64 0) (laid octets (replicate 64 0))
+
+abbrev pub noKey : Key
+noKey = record { kind = 0; htype = 0; len = 0; address = 0; octets = replicate 64 0 }
+
+-- an id over 64 octets has the length 65, which no lease has
+unfoldable pub idKey : List ℕ → Key
+idKey octets = record { kind = 3; htype = 0; len = min (length octets) 65; address = 0; octets = padded octets }
+
+abbrev pub keyFor : Asked → Key
+keyFor (refused n) = noKey
+keyFor (byAddress a) = record { kind = 1; htype = 0; len = 0; address = a; octets = replicate 64 0 }
+keyFor (byHardware htype hlen octets) = record { kind = 2; htype = htype; len = hlen; address = 0; octets = padded octets }
+keyFor (byClientId octets) = idKey octets
+
+abbrev pub refusalIn : Asked → ℕ
+refusalIn (refused n) = n
+refusalIn (byAddress a) = 0
+refusalIn (byHardware htype hlen octets) = 0
+refusalIn (byClientId octets) = 0
+
+unfoldable pub huntStart : Moment → ℕ → Key → Hunt
+huntStart clock n key =
+    record {
+      refusal = n;
+      clock = clock;
+      key = key;
+      kept = 0;
+      best = noLease;
+      ranks = replicate 63 (record { last = moment 0; address = 0 });
+    }
+
+unfoldable pub askedAt : Moment → Bool → List ℕ → ℕ → Asked
+askedAt clock ok query room =
+    cond (not (isMoment clock)) (refused 15)
+    (cond (not ok) (refused 9)
+    (cond (ltb room 648) (refused 8) (asking query)))
+
+abbrev pub otherOf : ℕ → ℕ → List ℕ → List ℕ → Outcome
+otherOf kind server query buffer = reply kind (fitting query buffer (otherReply kind server query))
+
+abbrev pub activeOf : Hunt → ℕ → ℕ → List ℕ → List ℕ → Outcome
+activeOf h n server query buffer = reply 13 (fitting query buffer (activeReply (h .clock) server query (h .best) (listed n (h .ranks))))
+
+unfoldable pub concluded : Hunt → ℕ → List ℕ → List ℕ → Outcome
+concluded h server query buffer =
+    cond (not (eqb (h .refusal) 0)) (refusal (h .refusal))
+    (cond (eqb (h .kept) 0) (otherOf 12 server query buffer)
+    (cond (not (eqb (h .key .kind) 1)) (activeOf h (h .kept) server query buffer)
+    (cond (activeAt (h .clock) (h .best)) (activeOf h 0 server query buffer) (otherOf 11 server query buffer))))

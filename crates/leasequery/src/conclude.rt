@@ -1,0 +1,71 @@
+// The answer from what was found, and the reply.
+use crate::LeaseAnswer;
+use clock::Moment;
+use lease::Lease;
+use lease::Rank;
+use lease::key;
+use leasereply::reply;
+use leasetable::hunt::Hunt;
+ghost use mathlib.Core.Path.{_≡_};
+ghost use lib.ListN.{length};
+ghost use Prim.Native.Nat.{_≤_};
+ghost use Rattle.octets.specs.Write.{laid};
+ghost use Rattle.leasequery.specs.Answer.{told, written};
+ghost use Rattle.leasequery.specs.Stages.{otherOf, activeOf, concluded};
+
+// A reply of a length was written.
+fn replied(kind: u32, n: usize) -> LeaseAnswer
+    requires { ⌜ n ≤ 648 ⌝ }
+    ensures { λ r. ⌜ r ≡ record { refusal = 0; kind = kind; length = n } ⌝ }
+{
+    LeaseAnswer {
+        refusal: 0,
+        kind,
+        length: n as u32,
+    }
+}
+
+// LEASEUNASSIGNED or LEASEUNKNOWN.
+fn other(kind: u8, server: u32, query: &[u8], buf: &mut [u8]) -> LeaseAnswer
+    ensures { λ r. ⌜ (r ≡ told (otherOf kind server (now (query .entry)) (now (buf .entry)))) × (now (buf .exit) ≡ laid (written (otherOf kind server (now (query .entry)) (now (buf .entry)))) (now (buf .entry))) ⌝ }
+{
+    let n = reply::write_other(buf, kind, server, query);
+    replied(kind as u32, n)
+}
+
+// LEASEACTIVE, with the addresses of the first n ranks where they are two or more.
+fn active(h: Hunt, n: usize, server: u32, query: &[u8], buf: &mut [u8]) -> LeaseAnswer
+    ensures { λ r. ⌜ (r ≡ told (activeOf h n server (now (query .entry)) (now (buf .entry)))) × (now (buf .exit) ≡ laid (written (activeOf h n server (now (query .entry)) (now (buf .entry)))) (now (buf .entry))) ⌝ }
+{
+    let clock = h.clock;
+    let best = h.best;
+    let ranks = h.ranks;
+    let len = reply::write_active(buf, clock, server, query, best, ranks, n);
+    replied(13, len)
+}
+
+// The whole answer.
+pub fn conclude(h: Hunt, server: u32, query: &[u8], buf: &mut [u8]) -> LeaseAnswer
+    ensures { λ r. ⌜ (r ≡ told (concluded h server (now (query .entry)) (now (buf .entry)))) × (now (buf .exit) ≡ laid (written (concluded h server (now (query .entry)) (now (buf .entry)))) (now (buf .entry))) ⌝ }
+{
+    if h.refusal != 0 {
+        return LeaseAnswer {
+            refusal: h.refusal,
+            kind: 0,
+            length: 0,
+        };
+    }
+    if h.kept == 0 {
+        return other(12, server, query, buf);
+    }
+    let key = h.key;
+    if key.kind != 1 {
+        return active(h, h.kept, server, query, buf);
+    }
+    let best = h.best;
+    let clock = h.clock;
+    if key::is_active(best, clock) {
+        return active(h, 0, server, query, buf);
+    }
+    other(11, server, query, buf)
+}

@@ -1,0 +1,142 @@
+-- The laws of a reply's octets. Assumes nothing.
+use Prim.Native.Nat.{ℕ, zero, suc, _+_, _*_, _≤_, _<_, min}
+use mathlib.Core.Path.{_≡_, refl, sym, ap, _∙_}
+use mathlib.Core.List.{List, [], _∷_, _++_, append-assoc, append-nil, map}
+use mathlib.Core.Bool.{Bool, true, false, cond, _||_}
+use native.Mathlib.Omega.{arith}
+use native.Mathlib.Nat.{zero-add}
+use native.Mathlib.Numerals.{add-one}
+use lib.ListN.{length, take, drop, getD, replicate, length-append, length-take, length-replicate, length-map}
+use lib.Dec.{leb, ltb}
+use borrow.Author.Tests.{leb-true, leb-false, lt-ltb, le-ltb, ltb-false}
+use lib.Seq.{take-suc, length-take-le, take-all}
+use Rattle.clock.specs.declared.Moment.{Moment}
+use Rattle.clock.specs.Clock.{moment, secondsLeft, secondsSince}
+use Rattle.octets.specs.Number.{bigEndian}
+use Rattle.octets.specs.Write.{laid, Laid, WroteIf}
+use Rattle.octets.proofs.NumberLaws.{length-big-endian}
+use Rattle.octets.proofs.WriteLaws.{nothing, more, put-front}
+use Rattle.lease.specs.declared.Lease.{Lease}
+use Rattle.lease.specs.declared.Rank.{Rank}
+use Rattle.leasepacket.specs.Query.{part, cookie}
+use Rattle.leasereply.specs.Reply.{fixed, option, optional, ofLease, flat, otherReply, activeReply, addressesOf, listed, fitting}
+
+-- ---- options that may be left out
+pub some : (code : ℕ) (v : List ℕ) → 0 < length v → option code v ≡ optional code v
+some code [] h = absurd (omega arith)
+some code (x ∷ xs) h = refl
+
+pub optional-none : {b : List ℕ} {at : ℕ} (v : List ℕ) (n code : ℕ) → n ≡ 0 → WroteIf b at (optional code (take n v)) b at
+optional-none v n code e = rw e nothing
+
+pub optional-some : {b v l : List ℕ} {at n k code : ℕ} → length v ≡ n → 0 < n → WroteIf b at (code ∷ n ∷ v) l k → WroteIf b at (optional code v) l k
+optional-some {b} {v} {l} {at} {n} {k} {code} e h w = rw (← some code v (omega arith), e) w
+
+-- ---- addresses
+flat-behind : (xs : List ℕ) (x : ℕ) → flat (xs ++ (x ∷ [])) ≡ flat xs ++ bigEndian 4 x
+unfolding flat
+flat-behind [] x = append-nil (bigEndian 4 x)
+flat-behind (y ∷ ys) x = ap (λ (l : List ℕ). bigEndian 4 y ++ l) (flat-behind ys x) ∙ sym (append-assoc (bigEndian 4 y) (flat ys) (bigEndian 4 x))
+
+pub flat-length : (xs : List ℕ) → length (flat xs) ≡ 4 * length xs
+unfolding flat
+flat-length [] = refl
+flat-length (x ∷ xs) = length-append (bigEndian 4 x) (flat xs) ∙ (let h = flat-length xs in let k = length-big-endian 4 x in omega arith)
+
+map-behind : (xs : List Rank) (x : Rank) → addressesOf (xs ++ (x ∷ [])) ≡ addressesOf xs ++ (x .address ∷ [])
+map-behind [] x = refl
+map-behind (y ∷ ys) x = ap (λ (l : List ℕ). y .address ∷ l) (map-behind ys x)
+
+abbrev noRank : Rank
+noRank = record { last = moment 0; address = 0 }
+
+-- one address more is written
+pub flat-more : {b l m : List ℕ} {at a k : ℕ} (v : List Rank) (i : ℕ) → i < length v → WroteIf b at (flat (addressesOf (take i v))) l a → Laid l a (bigEndian 4 (getD v i noRank .address)) m k → WroteIf b at (flat (addressesOf (take (i + 1) v))) m k
+flat-more v i h p q = rw (add-one, take-suc v i noRank h, map-behind (take i v) (getD v i noRank), flat-behind (addressesOf (take i v)) (getD v i noRank .address)) (more p q)
+
+pub addresses-length : (v : List Rank) (n : ℕ) → n ≤ length v → length (flat (addressesOf (take n v))) ≡ 4 * n
+addresses-length v n h = flat-length (addressesOf (take n v)) ∙ ap (λ (k : ℕ). 4 * k) (length-map (take n v) (λ (r : Rank). r .address) ∙ length-take-le n v h)
+
+-- of 64 octets no more than 64 are taken
+pub take-min : (v : List ℕ) (n m : ℕ) → length v ≡ 64 → m ≡ min n 64 → take n v ≡ take m v
+take-min v n m e q = go (leb n 64) refl
+  where
+    go : (b : Bool) → leb n 64 ≡ b → take n v ≡ take m v
+    go true t = let h : n ≤ 64 = leb-true n 64 t in let k : n ≡ m = omega (arith, q) in ap (λ (j : ℕ). take j v) k
+    go false t = let h : 64 < n = leb-false n 64 t in let a : length v ≤ n = omega arith in let b : length v ≤ m = omega (arith, q) in take-all n v a ∙ sym (take-all m v b)
+
+-- ---- no reply is longer than 648 octets
+part-short : (q : List ℕ) (at n : ℕ) → length (part q at n) ≤ n
+part-short q at n = let e = length-take n (drop at q) in omega (arith, e)
+
+fixed-short : (q : List ℕ) (htype hlen : ℕ) (ciaddr chaddr : List ℕ) → length ciaddr ≤ 4 → length chaddr ≤ 16 → length (fixed q htype hlen ciaddr chaddr) ≤ 240
+unfolding fixed
+fixed-short q htype hlen ciaddr chaddr a b =
+    let x = part-short q 4 4 in
+    let y = part-short q 10 2 in
+    let z = part-short q 24 4 in
+    simp length-append (omega (arith, x, y, z))
+
+pub other-short : (kind server : ℕ) (q : List ℕ) → length (otherReply kind server q) ≤ 648
+unfolding otherReply
+other-short kind server q =
+    let f = fixed-short q (getD q 1 0) (getD q 2 0) (part q 12 4) (part q 28 16) (part-short q 12 4) (part-short q 28 16) in
+    let n = length-big-endian 4 server in
+    simp length-append (omega (arith, f, n))
+
+optional-short : (code : ℕ) (v : List ℕ) → length (optional code v) ≤ 2 + length v
+optional-short code [] = omega arith
+optional-short code (x ∷ xs) = omega arith
+
+lease-short : (clock : Moment) (x : Lease) → length (take (x .idlen) (x .id)) ≤ 64 → length (take (x .relaylen) (x .relay)) ≤ 64 → length (ofLease clock x) ≤ 144
+unfolding ofLease
+lease-short clock x p q =
+    let a = optional-short 61 (take (x .idlen) (x .id)) in
+    let b = optional-short 82 (take (x .relaylen) (x .relay)) in
+    let m = length-big-endian 4 (secondsLeft (x .expiry) clock .0) in
+    let n = length-big-endian 4 (secondsSince (x .last) clock .0) in
+    simp length-append (omega (arith, a, b, m, n))
+
+pub active-short : (clock : Moment) (server : ℕ) (q : List ℕ) (x : Lease) (addresses : List ℕ) → length (take (x .idlen) (x .id)) ≤ 64 → length (take (x .relaylen) (x .relay)) ≤ 64 → length addresses ≤ 63 → length (activeReply clock server q x addresses) ≤ 648
+unfolding activeReply
+active-short clock server q x addresses p r h =
+    let c : length (bigEndian 4 (x .address)) ≤ 4 = omega (arith, length-big-endian 4 (x .address)) in
+    let k : length (take 16 (x .chaddr)) ≤ 16 = omega (arith, length-take 16 (x .chaddr)) in
+    let f = fixed-short q (x .htype) (x .hlen) (bigEndian 4 (x .address)) (take 16 (x .chaddr)) c k in
+    let n = length-big-endian 4 server in
+    let l = lease-short clock x p r in
+    let o = optional-short 92 (flat addresses) in
+    let e = flat-length addresses in
+    simp length-append (omega (arith, f, n, l, o, e))
+
+-- ---- what a writer did, by whether query and buffer are long enough
+module _ (q b : List ℕ) where
+  pub fits-not-query : (w : List ℕ) → length q < 240 → (_≡_ {A = ℕ} 0 (length (fitting q b w))) × (b ≡ laid (fitting q b w) b) × (0 ≤ 648)
+  unfolding laid
+  fits-not-query w h = (rw (lt-ltb (length q) 240 h), rw (lt-ltb (length q) 240 h), omega arith)
+
+  pub fits-not-buffer : (w : List ℕ) → 240 ≤ length q → length b < 648 → (_≡_ {A = ℕ} 0 (length (fitting q b w))) × (b ≡ laid (fitting q b w) b) × (0 ≤ 648)
+  unfolding laid
+  fits-not-buffer w h k = (rw (le-ltb (length q) 240 h, lt-ltb (length b) 648 k), rw (le-ltb (length q) 240 h, lt-ltb (length b) 648 k), omega arith)
+
+  pub fits : (w l : List ℕ) (n : ℕ) → 240 ≤ length q → 648 ≤ length b → length w ≤ 648 → WroteIf b 0 w l n → (n ≡ length (fitting q b w)) × (l ≡ laid (fitting q b w) b) × (n ≤ 648)
+  fits w l n h k s v =
+      let r = v .fit (omega arith) in
+      rw (le-ltb (length q) 240 h, le-ltb (length b) 648 k) (r .next ∙ zero-add (length w), r .list ∙ put-front b w, omega (arith, r .next, s))
+
+or-right : (a b : Bool) → (a || b) ≡ false → b ≡ false
+or-right true b e = cc
+or-right false b e = e
+
+listed-short : (n : ℕ) (ranks : List Rank) → length (listed n ranks) ≤ 63
+listed-short n ranks = go (ltb n 2 || ltb 63 n) refl
+  where
+    go : (b : Bool) → (ltb n 2 || ltb 63 n) ≡ b → length (cond b [] (addressesOf (take n ranks))) ≤ 63
+    go true e = omega arith
+    go false e =
+        let h : n ≤ 63 = ltb-false 63 n (or-right (ltb n 2) (ltb 63 n) e) in
+        omega (arith, length-map (take n ranks) (λ (r : Rank). r .address), length-take n ranks)
+
+pub active-fits : (clock : Moment) (server : ℕ) (q : List ℕ) (x : Lease) (n : ℕ) (ranks : List Rank) → length (x .id) ≡ 64 → length (x .relay) ≡ 64 → length (activeReply clock server q x (listed n ranks)) ≤ 648
+active-fits clock server q x n ranks a b =
+    active-short clock server q x (listed n ranks) (omega (arith, length-take (x .idlen) (x .id))) (omega (arith, length-take (x .relaylen) (x .relay))) (listed-short n ranks)

@@ -1,0 +1,24 @@
+use Rattle.octets.proofs.WriteLaws.{written, more}
+use borrow.Author.Needs.{needs}
+use Rattle.leasereply.proofs.options.put_kind.Statement.{statement}
+use Rattle.leasereply.proofs.options.put_kind.Tie as tie
+
+put-octet-requires : tie.Need-put-octet-requires
+put-octet-requires c κs = search needs
+
+put-octet-requires-2 : tie.Need-put-octet-requires-2
+put-octet-requires-2 c κs = search needs
+
+put-octet-requires-3 : tie.Need-put-octet-requires-3
+put-octet-requires-3 c κs = search needs
+
+same-length : tie.Need-same-length
+same-length c = search needs
+
+returns : tie.Need-returns
+returns c = more (more (written (c .before .before .before .before .before .before .before .before .before .before .put-octet .ensures)) (c .before .before .before .before .before .before .put-octet2 .ensures)) (c .before .before .put-octet3 .ensures)
+
+pub put-kind-spec : {M : Type 1} → statement M
+put-kind-spec =
+    tie.close
+    (tie.spec put-octet-requires put-octet-requires-2 put-octet-requires-3 same-length returns)

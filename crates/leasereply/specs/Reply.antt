@@ -1,0 +1,61 @@
+-- The octets of a reply. Document 01, "Lease table and queries".
+use Prim.Native.Nat.{ℕ}
+use mathlib.Core.Bool.{Bool, true, false, cond, _||_}
+use mathlib.Core.List.{List, [], _∷_, _++_, map}
+use lib.Dec.{ltb, leb}
+use lib.ListN.{length, getD, take, replicate}
+use Rattle.clock.specs.declared.Moment.{Moment}
+use Rattle.clock.specs.Clock.{secondsLeft, secondsSince}
+use Rattle.octets.specs.Number.{bigEndian}
+use Rattle.lease.specs.declared.Lease.{Lease}
+use Rattle.lease.specs.declared.Rank.{Rank}
+use Rattle.leasepacket.specs.Query.{part, cookie}
+
+-- op 2; xid, flags and giaddr copied from the query; the other fields zero, but for those given; the cookie.
+unfoldable pub fixed : List ℕ → ℕ → ℕ → List ℕ → List ℕ → List ℕ
+fixed query htype hlen ciaddr chaddr =
+    ((2 ∷ htype ∷ hlen ∷ 0 ∷ []) ++ part query 4 4 ++ replicate 2 0 ++ part query 10 2)
+    ++ (ciaddr ++ replicate 8 0 ++ part query 24 4 ++ chaddr ++ replicate 192 0 ++ cookie)
+
+-- An option with its value, and one that is left out where the value is empty.
+abbrev pub option : ℕ → List ℕ → List ℕ
+option code value = code ∷ length value ∷ value
+
+abbrev pub optional : ℕ → List ℕ → List ℕ
+optional code [] = []
+optional code (x ∷ xs) = option code (x ∷ xs)
+
+-- 51, seconds to expiry; 61 and 82 if the record has them; 91, seconds since the last transaction.
+unfoldable pub ofLease : Moment → Lease → List ℕ
+ofLease clock x =
+    option 51 (bigEndian 4 (secondsLeft (x .expiry) clock .0)) ++ optional 61 (take (x .idlen) (x .id))
+    ++ optional 82 (take (x .relaylen) (x .relay)) ++ option 91 (bigEndian 4 (secondsSince (x .last) clock .0))
+
+-- Addresses, each of four octets.
+unfoldable pub flat : List ℕ → List ℕ
+flat [] = []
+flat (a ∷ rest) = bigEndian 4 a ++ flat rest
+
+-- LEASEUNASSIGNED (11) and LEASEUNKNOWN (12): ciaddr, htype, hlen and chaddr from the query; then 53, 54, 255.
+unfoldable pub otherReply : ℕ → ℕ → List ℕ → List ℕ
+otherReply kind server query =
+    fixed query (getD query 1 0) (getD query 2 0) (part query 12 4) (part query 28 16)
+    ++ option 53 (kind ∷ []) ++ option 54 (bigEndian 4 server) ++ (255 ∷ [])
+
+-- LEASEACTIVE (13): ciaddr, htype, hlen and all 16 octets of chaddr from the record; then 53, 54, what tells of the lease, and 92 with
+-- the addresses given, if any; 255.
+unfoldable pub activeReply : Moment → ℕ → List ℕ → Lease → List ℕ → List ℕ
+activeReply clock server query x addresses =
+    fixed query (x .htype) (x .hlen) (bigEndian 4 (x .address)) (take 16 (x .chaddr))
+    ++ option 53 (13 ∷ []) ++ option 54 (bigEndian 4 server) ++ ofLease clock x ++ optional 92 (flat addresses) ++ (255 ∷ [])
+
+-- For the contracts of the writers: the addresses of the first n ranks that a scan kept, if they are two or more, and what is written
+-- where query and buffer are long enough.
+abbrev pub addressesOf : List Rank → List ℕ
+addressesOf ranks = map (λ r. r .address) ranks
+
+abbrev pub listed : ℕ → List Rank → List ℕ
+listed n ranks = cond (ltb n 2 || ltb 63 n) [] (addressesOf (take n ranks))
+
+abbrev pub fitting : List ℕ → List ℕ → List ℕ → List ℕ
+fitting query buffer octets = cond (ltb (length query) 240 || ltb (length buffer) 648) [] octets

@@ -1,0 +1,97 @@
+// The replies of each kind. Each answers its length.
+use crate::fixed;
+use crate::options;
+use clock::Moment;
+use lease::Lease;
+use lease::Rank;
+use octets::number;
+use octets::write;
+ghost use mathlib.Core.Path.{_≡_};
+ghost use lib.ListN.{length, take};
+ghost use Prim.Native.Nat.{_≤_};
+ghost use Rattle.octets.specs.Number.{bigEndian};
+ghost use Rattle.octets.specs.Write.{laid, WroteIf};
+ghost use Rattle.leasereply.specs.Reply.{fixed, otherReply, activeReply, listed, fitting};
+
+// LEASEUNASSIGNED (11) or LEASEUNKNOWN (12).
+fn put_other(buf: &mut [u8], kind: u8, server: u32, query: &[u8]) -> usize
+    requires { ⌜ 240 ≤ length (now query) ⌝ }
+    ensures { λ r. ⌜ WroteIf (now (buf .entry)) 0 (otherReply kind server (now (query .entry))) (now (buf .exit)) r ⌝ }
+{
+    let a = fixed::put_fixed(
+        buf,
+        query,
+        query[1],
+        query[2],
+        &query[12..16],
+        &query[28..44],
+    );
+    let b = options::put_kind(buf, a, kind);
+    let c = options::put_number(buf, b, 54, server);
+    write::put_octet(buf, c, 255)
+}
+
+// The fixed fields with those of a record.
+fn put_record(buf: &mut [u8], query: &[u8], x: Lease) -> usize
+    requires { ⌜ 240 ≤ length (now query) ⌝ }
+    ensures { λ r. ⌜ WroteIf (now (buf .entry)) 0 (fixed (now (query .entry)) (x .htype) (x .hlen) (bigEndian 4 (x .address)) (take 16 (x .chaddr))) (now (buf .exit)) r ⌝ }
+{
+    let ciaddr = number::u32_octets(x.address);
+    let chaddr = x.chaddr;
+    fixed::put_fixed(buf, query, x.htype, x.hlen, &ciaddr, &chaddr)
+}
+
+// LEASEACTIVE (13), with the addresses of the first n ranks where they are two or more.
+fn put_active(
+    buf: &mut [u8],
+    clock: Moment,
+    server: u32,
+    query: &[u8],
+    x: Lease,
+    ranks: [Rank; 63],
+    n: usize,
+) -> usize
+    requires { ⌜ 240 ≤ length (now query) ⌝ }
+    ensures { λ r. ⌜ WroteIf (now (buf .entry)) 0 (activeReply clock server (now (query .entry)) x (listed n ranks)) (now (buf .exit)) r ⌝ }
+{
+    let a = put_record(buf, query, x);
+    let b = options::put_kind(buf, a, 13);
+    let c = options::put_number(buf, b, 54, server);
+    let d = options::put_lease(buf, c, clock, x);
+    let e = options::put_listed(buf, d, ranks, n);
+    write::put_octet(buf, e, 255)
+}
+
+// The reply to a query that is not about an active lease, if query and buffer are long enough.
+pub fn write_other(buf: &mut [u8], kind: u8, server: u32, query: &[u8]) -> usize
+    ensures { λ r. ⌜ (r ≡ length (fitting (now (query .entry)) (now (buf .entry)) (otherReply kind server (now (query .entry))))) × (now (buf .exit) ≡ laid (fitting (now (query .entry)) (now (buf .entry)) (otherReply kind server (now (query .entry)))) (now (buf .entry))) × (r ≤ 648) ⌝ }
+{
+    if query.len() < 240 {
+        return 0;
+    }
+    if buf.len() < 648 {
+        return 0;
+    }
+    put_other(buf, kind, server, query)
+}
+
+// The reply that tells of an active lease, if query and buffer are long enough.
+pub fn write_active(
+    buf: &mut [u8],
+    clock: Moment,
+    server: u32,
+    query: &[u8],
+    x: Lease,
+    ranks: [Rank; 63],
+    n: usize,
+) -> usize
+    ensures { λ r. ⌜ (r ≡ length (fitting (now (query .entry)) (now (buf .entry)) (activeReply clock server (now (query .entry)) x (listed n ranks)))) × (now (buf .exit) ≡ laid (fitting (now (query .entry)) (now (buf .entry)) (activeReply clock server (now (query .entry)) x (listed n ranks))) (now (buf .entry))) × (r ≤ 648) ⌝ }
+{
+    if query.len() < 240 {
+        return 0;
+    }
+    if buf.len() < 648 {
+        return 0;
+    }
+    put_active(buf, clock, server, query, x, ranks, n)
+}

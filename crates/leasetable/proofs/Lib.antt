@@ -1,0 +1,5 @@
+-- Laws that belong to no one function. Crates above cite the definitions through these.
+pub mod FormLaws
+pub mod HuntLaws
+pub mod InsertLaws
+pub mod Scan
