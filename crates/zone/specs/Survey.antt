@@ -20,7 +20,7 @@ use Rattle.zone.specs.Zone as rules
 use Rattle.zone.specs.Zone.{Host, Update, address, fits, Outcome}
 use Rattle.zone.specs.Meaning.{nameOf, hostOf, used, inOrder, keyOf, keys, allInOrder, zoneOf, formed, familyOf, addressOf}
 use Rattle.zone.specs.declared.request.Answered.{Answered}
-use Rattle.zone.specs.Promise.{numberOf, refusalOf}
+use Rattle.zone.specs.Promise.{numberOf}
 
 -- ---- fingerprints: equal names have equal ones
 
@@ -65,13 +65,9 @@ pub record Found (z : Zone) (n : Octets) (s : Survey) : Type 0 where
   pub free-is : s .free ≡ placeFrom (λ (e : Entry). not (used e)) 0 64 (z .entries)
   pub entry-is : (d : Entry) → s .found < 64 → s .entry ≡ getD (z .entries) (s .found) d
 
-pub record Walked (z : Zone) (n : Octets) (s : Survey) : Type 0 where
-  pub found : Found z n s
-  pub clear : s .distinct ≡ true → distinct (keys (z .entries)) ≡ true
-
 pub record Surveyed (z : Zone) (n : Octets) (s : Survey) : Type 0 where
-  pub found : Found z n s
-  pub distinct-is : s .distinct ≡ distinct (keys (z .entries))
+  pub places : Found z n s
+  pub distinct-names : s .clear ≡ true → distinct (keys (z .entries)) ≡ true
 
 -- ---- what a request comes to: an answer, and one place written, or none where it says 64
 
@@ -85,10 +81,7 @@ pub record Decided (z : Zone) (right : Outcome) (w : Change) : Type 0 where
 
 -- a request decided on a survey: right for every zone in form that the survey is of
 pub record Decides (request : rules.Zone → Outcome) (n : Octets) (s : Survey) (w : Change) : Type 0 where
-  pub decides : (z : Zone) → length (z .entries) ≡ 64 → formed z ≡ true → Surveyed z n s → Decided z (request (zoneOf z)) w
-
-pub record Refuses (n : Octets) (family policy : ℕ) (s : Survey) (r : ℕ) : Type 0 where
-  pub refuses : (z : Zone) → Surveyed z n s → r ≡ refusalOf z n family policy
+  pub decides : (z : Zone) → formed z ≡ true → Found z n s → Decided z (request (zoneOf z)) w
 
 -- and done
 pub record Finished (z : Zone) (w : Change) (r : Answered) : Type 0 where
