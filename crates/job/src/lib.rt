@@ -1,0 +1,1 @@
+// Add and remove jobs, on the zone's promise alone.

@@ -1,0 +1,10 @@
+pub mod CaseLaws
+pub mod HostLaws
+pub mod RequestLaws
+pub mod OrderLaws
+pub mod Placing
+pub mod Demand
+pub mod StageLaws
+pub mod Cases
+pub mod RemovesDiffer
+pub mod InTime

@@ -1,0 +1,2 @@
+-- The claim, over any calls that keep the promises.
+pub mod Demand
