@@ -1,0 +1,9 @@
+-- Laws that belong to no one function. Crates above cite the definitions through these.
+pub mod PrintLaws
+pub mod SurveyLaws
+pub mod HostLaws
+pub mod ZoneLaws
+pub mod PlaceLaws
+pub mod DecideLaws
+pub mod PromiseLaws
+pub mod RequestLaws

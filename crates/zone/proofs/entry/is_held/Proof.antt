@@ -1,0 +1,29 @@
+use mathlib.Core.Path.{_≡_}
+use borrow.Author.Tests.{eq-eqb, ne-eqb}
+use Rattle.zone.specs.Zone.{heldBy}
+use Rattle.zone.specs.Meaning.{hostOf}
+use borrow.Author.Needs.{needs}
+use Rattle.zone.proofs.entry.is_held.Statement.{statement}
+use Rattle.zone.proofs.entry.is_held.Tie as tie
+
+returns : tie.Need-returns
+unfolding hostOf heldBy
+returns c = simp (eq-eqb _ _ (c .if1 .taken))
+
+slice-aggregate-same : tie.Need-slice-aggregate-same
+slice-aggregate-same c = search needs
+
+slice-aggregate-same-2 : tie.Need-slice-aggregate-same-2
+slice-aggregate-same-2 c = search needs
+
+same-requires : tie.Need-same-requires
+same-requires c κs = search needs
+
+returns-2 : tie.Need-returns-2
+unfolding hostOf heldBy
+returns-2 c = simp (ne-eqb _ _ (c .before .before .before .before .before .before .if1 .left)) (c .same .ensures)
+
+pub is-held-spec : {M : Type 1} → statement M
+is-held-spec =
+    tie.close
+    (tie.spec returns slice-aggregate-same slice-aggregate-same-2 same-requires returns-2)

@@ -1,0 +1,172 @@
+use borrow.Author.Tests.{not-true}
+use mathlib.Core.Path.{_≡_, refl, sym, _∙_, ap}
+use mathlib.Core.Bool.{Bool, true, false, cond, not, _&&_}
+use mathlib.Core.List.{List, [], _++_, map}
+use Prim.Native.Nat.{ℕ, _+_, _-_, _≤_, _<_}
+use native.Mathlib.Omega.{arith}
+use lib.ListN.{length, getD, take, drop, length-set}
+use borrow.Author.Needs.{needs}
+use Rattle.hosts.specs.Addresses.{one}
+use Rattle.zone.specs.declared.entry.Entry.{Entry}
+use Rattle.zone.specs.Meaning.{nameOf, used as isUsed, keys, allInOrder}
+use Rattle.zone.specs.Survey.{printFrom, printOf, repeated, named, placeFrom}
+use Rattle.zone.proofs.PrintLaws.{prefix-length, clear-distinct}
+use Rattle.zone.proofs.SurveyLaws.{blank, places, order-step, place-step, free-step, print-put, order-end, place-end, print-end, chosen-below, chosen-found, getD-any, one-few}
+use Rattle.zone.proofs.survey.walk.Statement.{statement}
+use Rattle.zone.proofs.survey.walk.Tie as tie
+
+abbrev isFree : Entry → Bool
+isFree e = not (isUsed e)
+
+pub record Walk (es : List Entry) (n : List ℕ) (prints : List ℕ) (count : ℕ) (inorder : Bool) (found free i : ℕ) : Type 0 where
+  pub below : i ≤ 64
+  pub few : count ≤ i
+  pub all : length es ≡ 64
+  pub room : length prints ≡ 64
+  pub printed : take count prints ++ map (printFrom 0 0 0) (keys (drop i es)) ≡ map (printFrom 0 0 0) (keys es)
+  pub ordered : allInOrder es ≡ (inorder && allInOrder (drop i es))
+  pub wanted : placeFrom (named n) 0 64 es ≡ placeFrom (named n) i found (drop i es)
+  pub spare : placeFrom isFree 0 64 es ≡ placeFrom isFree i free (drop i es)
+
+abbrev Inv-loop : tie.InvT-loop
+Inv-loop wanted z print prints₀ used₀ inorder₀ found₀ free₀ i₀ prints used inorder found free i = (print ≡ printOf (nameOf wanted)) × Walk (z .entries) (nameOf wanted) prints used inorder found free i
+
+abbrev μ-loop : tie.MeasureT-loop
+μ-loop wanted z print prints₀ used₀ inorder₀ found₀ free₀ i₀ prints used inorder found free i = 64 - i
+
+print-requires : tie.Need-print-requires Inv-loop μ-loop
+print-requires c κs = search needs
+
+loop-holds : tie.Need-loop-holds Inv-loop μ-loop
+loop-holds c =
+    let s = c .before in
+    let p = places (s .args .t1) (s .good .0 .1 .1 .0 .1 .0 .1) in
+    (c .print .ensures, record { below = omega arith; few = omega arith; all = p; room = refl; printed = refl; ordered = refl; wanted = refl; spare = refl })
+
+mul-e : tie.Need-mul-e Inv-loop μ-loop
+mul-e c = omega arith
+
+element-copy-out-e : tie.Need-element-copy-out-e Inv-loop μ-loop
+element-copy-out-e c = omega arith
+
+look-requires : tie.Need-look-requires Inv-loop μ-loop
+look-requires c κs = c .before .before .loop .inv .0
+
+mul-prints : tie.Need-mul-prints Inv-loop μ-loop
+mul-prints c = omega arith
+
+array-write-prints : tie.Need-array-write-prints Inv-loop μ-loop
+array-write-prints c = omega arith
+
+one-requires : tie.Need-one-requires Inv-loop μ-loop
+one-requires c κs = search needs
+
+add-used : tie.Need-add-used Inv-loop μ-loop
+add-used c =
+    let o = one-few (c .before .look .result .used) in
+    let e = c .one .ensures in
+    let w = c .before .before .before .before .loop .inv .1 in
+    omega arith
+
+both-requires : tie.Need-both-requires Inv-loop μ-loop
+both-requires c κs = search needs
+
+choose-requires : tie.Need-choose-requires Inv-loop μ-loop
+choose-requires c κs = search needs
+
+choose-requires-2 : tie.Need-choose-requires-2 Inv-loop μ-loop
+choose-requires-2 c κs = search needs
+
+add-i : tie.Need-add-i Inv-loop μ-loop
+add-i c = omega arith
+
+loop-less : tie.Need-loop-less Inv-loop μ-loop
+loop-less c = omega arith
+
+loop-again : tie.Need-loop-again Inv-loop μ-loop
+loop-again c =
+    let s = c .before .before .before .before .before .before .before .before .before in
+    let l = c .before .before .before .before .before .before .before .loop in
+    let w = l .inv .1 in
+    let k = c .before .before .before .before .look in
+    let one-is = c .before .before .before .one .ensures in
+    let es = s .args .t1 .entries in
+    let h : l .i < length es = omega arith in
+    let o = one-few (k .result .used) in (
+      l .inv .0,
+      record {
+        below = omega arith;
+        few = omega arith;
+        all = w .all;
+        room = simp length-set (w .room);
+        printed = print-put es blank (l .i) h (printFrom 0 0 0) (l .prints) (l .used) (k .result .print) (k .result .used) (c .before .before .before .one .result) (omega arith) (k .ensures .used-is) (k .ensures .print-is) one-is (w .printed);
+        ordered = order-step es blank (l .i) h _ (l .inorder) (k .result .inorder) (c .before .before .both .result) (k .ensures .order-is) (c .before .before .both .ensures) (w .ordered);
+        wanted = w .wanted ∙ place-step es blank (l .i) h _ (l .found) (k .result .named) (c .before .choose .result) (k .ensures .named-is) (c .before .choose .ensures);
+        spare = w .spare ∙ free-step es blank (l .i) h (l .free) (k .result .used) (c .choose2 .result) (k .ensures .used-is) (c .choose2 .ensures);
+      },
+    )
+
+array-share-prefix-prints : tie.Need-array-share-prefix-prints Inv-loop μ-loop
+array-share-prefix-prints c = let w = c .before .loop .inv .1 in omega arith
+
+slice-aggregate-repeats : tie.Need-slice-aggregate-repeats Inv-loop μ-loop
+slice-aggregate-repeats c = let w = c .before .before .loop .inv .1 in prefix-length _ _ (omega arith)
+
+repeats-requires : tie.Need-repeats-requires Inv-loop μ-loop
+repeats-requires c κs = search needs
+
+choose-requires-3 : tie.Need-choose-requires-3 Inv-loop μ-loop
+choose-requires-3 c κs = search needs
+
+mul-e-2 : tie.Need-mul-e-2 Inv-loop μ-loop
+mul-e-2 c = let h = chosen-below (c .before .before .before .before .loop .found) in omega (arith, c .choose3 .ensures)
+
+element-copy-out-e-2 : tie.Need-element-copy-out-e-2 Inv-loop μ-loop
+element-copy-out-e-2 c = let h = chosen-below (c .before .before .before .before .loop .found) in omega (arith, c .choose3 .ensures)
+
+returns : tie.Need-returns Inv-loop μ-loop
+returns c =
+    let s = c .before .before .before .before .before .before .before in
+    let l = c .before .before .before .before .before .loop in
+    let w = l .inv .1 in
+    let es = s .args .t1 .entries in
+    let h : length es ≤ l .i = omega arith in
+    record {
+      found = record {
+        places-are = w .all;
+        order-is = order-end es (l .i) h _ (l .inorder) (w .ordered);
+        found-is = sym (w .wanted ∙ place-end es (l .i) h _ (l .found));
+        free-is = sym (w .spare ∙ place-end es (l .i) h _ (l .free));
+        entry-is = λ d f. ap (λ (m : ℕ). getD es m blank) (c .before .choose3 .ensures ∙ chosen-found (l .found) f) ∙ getD-any es (l .found) blank d (omega arith);
+      };
+      clear = λ t. clear-distinct (printFrom 0 0 0) (keys es) (ap repeated (sym (print-end es (l .i) h (printFrom 0 0 0) _ (w .printed))) ∙ sym (c .before .before .repeats .ensures) ∙ not-true _ t);
+    }
+
+pub walk-spec : {M : Type 1} → statement M
+walk-spec =
+    tie.close
+    (tie.spec
+    Inv-loop
+    μ-loop
+    print-requires
+    loop-holds
+    mul-e
+    element-copy-out-e
+    look-requires
+    mul-prints
+    array-write-prints
+    one-requires
+    add-used
+    both-requires
+    choose-requires
+    choose-requires-2
+    add-i
+    loop-less
+    loop-again
+    array-share-prefix-prints
+    slice-aggregate-repeats
+    repeats-requires
+    choose-requires-3
+    mul-e-2
+    element-copy-out-e-2
+    returns)
