@@ -88,22 +88,23 @@ ends-in-time C P z₀ z js ks₀ ks g new l i k e o =
     let r = regular C P js z₀ ks₀ new l i k e in
     fewer (C .jobOf k .arguments) (C .jobOf k .stage) (ownSteps C l i) (r .fits) (r .can) (counts C P js z₀ ks₀ (sound (C .zoneOf z₀) (P .formed z₀ g)) (begins C P js ks₀ new) l i k e) o
 
--- Jobs that a step always takes: fresh ones are, and a step on a zone of good form leaves such a job and such a zone.
-pub record Taken (C : Calls) (Ok : C .J → Type 0) : Type 0 where
+-- Zones and jobs that a step always takes: those of good form and the fresh ones are, and a step leaves such a zone and such a job.
+pub record Taken (C : Calls) (OkZone : C .Z → Type 0) (Ok : C .J → Type 0) : Type 0 where
+  pub formed-ok : (z : C .Z) → C .Formed z → OkZone z
   pub new-ok : (j : Arguments) (k : C .J) → C .New j k → Ok k
-  pub unrefused : (z : C .Z) (k : C .J) (r : C .R) → C .Formed z → Ok k → C .Step z k r → C .refusal r ≡ 0
-  pub zone-ok : (z : C .Z) (k : C .J) (r : C .R) → C .Step z k r → C .refusal r ≡ 0 → C .Formed (C .zone r)
+  pub unrefused : (z : C .Z) (k : C .J) (r : C .R) → OkZone z → Ok k → C .Step z k r → C .refusal r ≡ 0
+  pub zone-ok : (z : C .Z) (k : C .J) (r : C .R) → C .Step z k r → C .refusal r ≡ 0 → OkZone (C .zone r)
   pub job-ok : (z : C .Z) (k : C .J) (r : C .R) → C .Step z k r → C .refusal r ≡ 0 → Ok (C .job r)
 
-module _ (C : Calls) (Ok : C .J → Type 0) (T : Taken C Ok) where
+module _ (C : Calls) (OkZone : C .Z → Type 0) (Ok : C .J → Type 0) (T : Taken C OkZone Ok) where
   all-first : (js : List Arguments) (ks : List (C .J)) → Fresh C js ks → (i : ℕ) (k : C .J) → getElem? ks i ≡ some k → Ok k
   all-first [] [] no-job i k e = absurd (some≢none (sym e))
   all-first (j ∷ js) (x ∷ ks) (one-more m f) zero k e = let q : x ≡ k = cc in subst Ok q (T .new-ok j x m)
   all-first (j ∷ js) (x ∷ ks) (one-more m f) (suc i) k e = all-first js ks f i k e
 
   module _ (js : List Arguments) (z₀ : C .Z) (ks₀ : List (C .J)) (formed : C .Formed z₀) (new : Fresh C js ks₀) where
-    zone-stays : {z : C .Z} {ks : List (C .J)} → Steps C z₀ ks₀ z ks → C .Formed z
-    zone-stays start = formed
+    zone-stays : {z : C .Z} {ks : List (C .J)} → Steps C z₀ ks₀ z ks → OkZone z
+    zone-stays start = T .formed-ok z₀ formed
     zone-stays (stepped {z = z} l n j r g p q) = T .zone-ok z j r p q
     zone-stays (refused l y j r p q) = zone-stays l
 

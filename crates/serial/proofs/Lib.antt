@@ -8,3 +8,4 @@ pub mod StageLaws
 pub mod Cases
 pub mod RemovesDiffer
 pub mod InTime
+pub mod Running
