@@ -13,7 +13,7 @@ use Rattle.hosts.proofs.CountLaws.{counts-nothing, counts-list}
 use Rattle.zone.specs.Zone.{Host, Zone, there, GoodHost, Form, with, put, Update, keepOthers, heldBy, empty, address, requestA, requestB, removeAddress, removeName}
 use Rattle.job.specs.Jobs.{add, remove, Arguments, End, conflict, gone, ended, Job, fresh, after, afterFirst, afterSecond, step, Sends, has-ended, sends}
 use Rattle.serial.specs.Demand.{Calls, Promises, no-job, one-more, start, stepped, verdict, stands, times, nobody, next, Explains, Story, HeldHaveAddress, Serializable}
-use Rattle.serial.proofs.CaseLaws.{some≢none}
+use Rattle.zone.proofs.ZoneLaws.{some≢none}
 use Rattle.serial.proofs.Demand.{stronger, demand3}
 
 pub record Result : Type 0 where

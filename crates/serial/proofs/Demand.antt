@@ -13,11 +13,11 @@ use borrow.Author.Tests.{eq-eqb, ne-eqb}
 use Rattle.dname.specs.Name.{key}
 use Rattle.hosts.specs.Count.{Octets}
 use Rattle.hosts.specs.Addresses.{four}
-use Rattle.zone.specs.Zone.{Zone, keepOthers, Answer, success, YXDOMAIN, NXDOMAIN, NXRRSET, address, requestA, fits, requestB, removeAddress, removeName}
+use Rattle.zone.specs.Zone.{Zone, Form, keepOthers, Answer, success, YXDOMAIN, NXDOMAIN, NXRRSET, address, requestA, fits, requestB, removeAddress, removeName}
 use Rattle.job.specs.Jobs.{Kind, add, remove, Arguments, End, gaveUp, notOurs, gone, kept, Stage, beforeA, beforeB, beforeFirst, beforeSecond, ended, Job, firstStage, fresh, after, passed, afterFirst, afterSecond, step, sent}
 use Rattle.serial.specs.Demand.{Calls, Promises, going, Fresh, no-job, one-more, Steps, start, stepped, refused, ownSteps, ChangedNothing, Moment, EndedFirst, verdict, stands, times, In, Before, InTurn, nobody, next, Explains, Story, Demand3, Stronger}
-use Rattle.serial.proofs.CaseLaws.{some≢none, option-case, set-same, set-other}
-use Rattle.serial.proofs.HostLaws.{Sound, sound, zone-eq, put-off}
+use Rattle.zone.proofs.ZoneLaws.{some≢none, option-case, zone-eq, put-off}
+use Rattle.serial.proofs.ListLaws.{set-same, set-other}
 use Rattle.serial.proofs.RequestLaws.{form-step, whole, whole-sends, outcome, quiet}
 use Rattle.serial.proofs.OrderLaws.{serial, Agree, form-serial, times-in}
 use Rattle.serial.proofs.Placing.{Ended, Fits, stand, stand-same, stand-other, ended≢2, At, Inv, Real, move, shown, emptied}
@@ -172,7 +172,7 @@ begins C P (j ∷ js) (k ∷ ks) (one-more m f) = go (begins C P js ks f)
             (ap (λ (u : Job). u .stage) is ∙ ap (λ (u : Job). fresh (u .arguments)) (sym is))
         stage (suc i) x e = b .stage i x e
 
-module _ (C : Calls) (P : Promises C) (js : List Arguments) (z₀ : C .Z) (ks₀ : List (C .J)) (g₀ : Sound (C .zoneOf z₀)) (b₀ : Begins C js ks₀) where
+module _ (C : Calls) (P : Promises C) (js : List Arguments) (z₀ : C .Z) (ks₀ : List (C .J)) (g₀ : Form (C .zoneOf z₀)) (b₀ : Begins C js ks₀) where
   abbrev JJ : ℕ → Arguments
   JJ = J C js
 
@@ -221,7 +221,7 @@ module _ (C : Calls) (P : Promises C) (js : List Arguments) (z₀ : C .Z) (ks₀
           absurd (omega arith)
 
   abbrev So : C .Z → List (C .J) → (ℕ → ℕ → Type 0) → Type 0
-  So z ks H = (o : List ℕ) × Holds (C .zoneOf z) (stages C js ks) o × Orders H (stages C js ks) o × Sound (C .zoneOf z)
+  So z ks H = (o : List ℕ) × Holds (C .zoneOf z) (stages C js ks) o × Orders H (stages C js ks) o × Form (C .zoneOf z)
 
   run : {z : C .Z} {ks : List (C .J)} (l : Steps C z₀ ks₀ z ks) → So z ks (EndedFirst C l)
   unfolding EndedFirst
@@ -259,7 +259,7 @@ module _ (C : Calls) (P : Promises C) (js : List Arguments) (z₀ : C .Z) (ks₀
           subst (λ (x : Zone). Holds x (stages C js ks′) (n .0)) zone-is
           (subst (λ (h : ℕ → Stage). Holds (step (JJ i) (C .zoneOf z) s .zone) h (n .0)) stages-are (n .1)) in
           let w : Orders (EndedFirst C l) (stages C js ks′) (n .0) = subst (λ (h : ℕ → Stage). Orders (EndedFirst C l) h (n .0)) stages-are (n .2 (EndedFirst C l) (m .2)) in
-          (n .0, v, absorb (EndedFirst C l) (C .zoneOf (C .zone r)) ks′ (n .0) (along (stepped l i k r g p q)) v w, subst Sound zone-is (form-step (JJ i) (C .zoneOf z) (m .3) s))
+          (n .0, v, absorb (EndedFirst C l) (C .zoneOf (C .zone r)) ks′ (n .0) (along (stepped l i k r g p q)) v w, subst Form zone-is (form-step (JJ i) (C .zoneOf z) (m .3) s))
 
   pub counts : {z : C .Z} {ks : List (C .J)} (l : Steps C z₀ ks₀ z ks) (x : ℕ) (k : C .J) → getElem? ks x ≡ some k → Sent (C .jobOf k .stage) (ownSteps C l x)
   unfolding ownSteps
@@ -323,8 +323,8 @@ module _ (C : Calls) (P : Promises C) (s : Story C) where
   abbrev f : ℕ → Stage
   f = stages C js (s .last-jobs)
 
-  pub g₀ : Sound (C .zoneOf (s .first-zone))
-  g₀ = sound (C .zoneOf (s .first-zone)) (P .formed (s .first-zone) (s .formed))
+  pub g₀ : Form (C .zoneOf (s .first-zone))
+  g₀ = P .formed (s .first-zone) (s .formed)
 
   pub b₀ : Begins C js (s .first-jobs)
   b₀ = begins C P js (s .first-jobs) (s .fresh-jobs)
@@ -374,7 +374,7 @@ module _ (C : Calls) (P : Promises C) (s : Story C) where
       go (inl m) = ended≢2 (m .0, m .1 .stage) p
       go (inr m) = some≢none (sym (ap outcome p) ∙ ap outcome (m .0) ∙ fresh-none (J C js i))
 
-  module _ (o : List ℕ) (v : Inv (J C js) x₀ g₀ (At (J C js) x₀ g₀ x₁ f) f o) (form : Sound x₁) where
+  module _ (o : List ℕ) (v : Inv (J C js) x₀ g₀ (At (J C js) x₀ g₀ x₁ f) f o) (form : Form x₁) where
     all-shown : (k : Octets) → (v .put-off k ≡ []) × (serial (J C js) x₀ o .at k ≡ x₁ .at k)
     all-shown k = go (v .names k)
       where

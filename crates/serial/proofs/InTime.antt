@@ -2,20 +2,21 @@ use mathlib.Core.Path.{_≡_, sym, _∙_, ap, subst}
 use mathlib.Core.Bool.{Bool, true, false, cond}
 use mathlib.Core.List.{List, [], _∷_}
 use mathlib.Core.Option.{Option, some}
-use Prim.Native.Nat.{ℕ, zero, suc, _<_}
+use Prim.Native.Nat.{ℕ, zero, suc, _≤_, _<_}
 use native.Mathlib.Decide.{ℕ-discrete}
 use native.Mathlib.Omega.{arith}
 use lib.Dec.{eqb}
 use lib.ListN.{getElem?, set}
 use Rattle.hosts.proofs.CountLaws.{true≢false}
 use Rattle.zone.specs.Zone.{Zone, Answer, success, YXDOMAIN, NXDOMAIN, NXRRSET, requestA, fits, requestB, removeAddress, removeName}
-use Rattle.job.specs.Jobs.{add, remove, Arguments, gaveUp, notOurs, gone, kept, Stage, beforeA, beforeB, beforeFirst, beforeSecond, ended, Job, possible, fresh, after, passed, afterFirst, afterSecond, step}
-use Rattle.serial.specs.Demand.{Calls, Promises, going, Fresh, no-job, one-more, Steps, start, stepped, refused, ownSteps, most, EndsInTime, NeverRefused}
-use Rattle.serial.proofs.CaseLaws.{some≢none, set-same, set-other}
-use Rattle.serial.proofs.HostLaws.{sound}
-use Rattle.serial.proofs.StageLaws.{each-among, possible-fresh, possible-step}
+use Rattle.job.specs.Jobs.{add, remove, Arguments, End, done, conflict, noRoom, gaveUp, notOurs, gone, kept, Stage, beforeA, beforeB, beforeFirst, beforeSecond, ended, Job, possible, fresh, after, passed, afterFirst, afterSecond, step, sent}
+use Rattle.serial.specs.Demand.{Calls, Promises, going, Fresh, no-job, one-more, Steps, start, stepped, refused, ownSteps, most, EndsInTime, NeverRefused, SixAtMost}
+use Rattle.zone.proofs.ZoneLaws.{some≢none}
+use Rattle.job.proofs.StageLaws.{each-among}
+use Rattle.serial.proofs.ListLaws.{set-same, set-other}
+use Rattle.serial.proofs.StageLaws.{possible-fresh, possible-step}
 use Rattle.serial.proofs.Placing.{Fits}
-use Rattle.serial.proofs.Demand.{Sent, fresh-fits, begins, counts, js}
+use Rattle.serial.proofs.Demand.{Sent, some-eq, fresh-fits, begins, counts, js, its-job}
 
 fits-after : (j : Arguments) (n : ℕ) (a : Answer) → j .kind ≡ add → Fits j (after n a)
 unfolding after
@@ -86,7 +87,25 @@ fewer j (ended d) m f c e g = absurd (true≢false (sym g))
 pub ends-in-time : (C : Calls) → Promises C → EndsInTime C
 ends-in-time C P z₀ z js ks₀ ks g new l i k e o =
     let r = regular C P js z₀ ks₀ new l i k e in
-    fewer (C .jobOf k .arguments) (C .jobOf k .stage) (ownSteps C l i) (r .fits) (r .can) (counts C P js z₀ ks₀ (sound (C .zoneOf z₀) (P .formed z₀ g)) (begins C P js ks₀ new) l i k e) o
+    fewer (C .jobOf k .arguments) (C .jobOf k .stage) (ownSteps C l i) (r .fits) (r .can) (counts C P js z₀ ks₀ (P .formed z₀ g) (begins C P js ks₀ new) l i k e) o
+
+-- ---- six at most
+
+few-sent : (e : End) (n : ℕ) → possible (ended e) ≡ true → sent e ≡ some n → n ≤ 6
+unfolding possible
+few-sent (done m) n c q = subst (λ (x : ℕ). x ≤ 6) (sym (some-eq q)) (each-among (λ x. x ≤ 6) m (1 ∷ 2 ∷ 3 ∷ 4 ∷ 5 ∷ 6 ∷ []) (omega arith, (omega arith, (omega arith, (omega arith, (omega arith, (omega arith, tt)))))) c)
+few-sent (noRoom m) n c q = subst (λ (x : ℕ). x ≤ 6) (sym (some-eq q)) (each-among (λ x. x ≤ 6) m (1 ∷ 2 ∷ 3 ∷ 4 ∷ 5 ∷ 6 ∷ []) (omega arith, (omega arith, (omega arith, (omega arith, (omega arith, (omega arith, tt)))))) c)
+few-sent (conflict m) n c q = subst (λ (x : ℕ). x ≤ 6) (sym (some-eq q)) (each-among (λ x. x ≤ 6) m (2 ∷ 4 ∷ 6 ∷ []) (omega arith, (omega arith, (omega arith, tt))) c)
+few-sent (gaveUp m) n c q = subst (λ (x : ℕ). x ≤ 6) (sym (some-eq q)) (each-among (λ x. x ≤ 6) m (6 ∷ []) (omega arith, tt) c)
+few-sent notOurs n c q = absurd (some≢none (sym q))
+few-sent gone n c q = absurd (some≢none (sym q))
+few-sent kept n c q = absurd (some≢none (sym q))
+
+pub six-at-most : (C : Calls) → Promises C → SixAtMost C
+six-at-most C P s i e n p q =
+    let j = its-job C P s i e p in
+    let r = regular C P (s .arguments) (s .first-zone) (s .first-jobs) (s .fresh-jobs) (s .steps) i (j .0) (j .1) in
+    few-sent e n (subst (λ (t : Stage). possible t ≡ true) (j .2) (r .can)) q
 
 -- Zones and jobs that a step always takes: those of good form and the fresh ones are, and a step leaves such a zone and such a job.
 pub record Taken (C : Calls) (OkZone : C .Z → Type 0) (Ok : C .J → Type 0) : Type 0 where

@@ -1,4 +1,4 @@
-pub mod CaseLaws
+pub mod ListLaws
 pub mod HostLaws
 pub mod RequestLaws
 pub mod OrderLaws

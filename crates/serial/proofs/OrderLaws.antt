@@ -8,10 +8,9 @@ use Prim.Native.Nat.{ℕ, _+_, _<_}
 use native.Mathlib.Omega.{arith}
 use lib.Dec.{eqb}
 use borrow.Author.Tests.{eq-eqb}
-use Rattle.zone.specs.Zone.{Zone}
+use Rattle.zone.specs.Zone.{Zone, Form}
 use Rattle.job.specs.Jobs.{Arguments, End, Stage, ended}
 use Rattle.serial.specs.Demand.{Verdict, verdict, times, In, Before}
-use Rattle.serial.proofs.HostLaws.{Sound}
 use Rattle.serial.proofs.RequestLaws.{whole, form-whole}
 
 -- The job has ended, with that verdict.
@@ -28,7 +27,7 @@ module _ (J : ℕ → Arguments) where
   Agree p z [] = Unit
   Agree p z (i ∷ o) = Says (whole (J i) z .stage) (p i) × Agree p (whole (J i) z .zone) o
 
-  pub form-serial : (z : Zone) (o : List ℕ) → Sound z → Sound (serial z o)
+  pub form-serial : (z : Zone) (o : List ℕ) → Form z → Form (serial z o)
   unfolding serial
   form-serial z [] g = g
   form-serial z (i ∷ o) g = form-serial (whole (J i) z .zone) o (form-whole (J i) z g)

@@ -16,11 +16,11 @@ use Rattle.octets.proofs.CompareLaws.{same-self}
 use Rattle.dname.specs.Name.{key}
 use Rattle.hosts.specs.Count.{Octets}
 use Rattle.hosts.proofs.CountLaws.{true≢false, bool-case, and-left, and-right, same-no, same-dec, counts-eq}
-use Rattle.zone.specs.Zone.{Host, Zone, there, put, NXDOMAIN, atName, heldBy, empty, address, newHost, left, fits}
+use Rattle.zone.specs.Zone.{Host, Zone, there, GoodHost, Form, put, NXDOMAIN, atName, heldBy, empty, address, newHost, left, fits}
 use Rattle.job.specs.Jobs.{add, remove, Arguments, End, done, conflict, noRoom, gaveUp, notOurs, gone, kept, Stage, beforeA, beforeB, beforeFirst, beforeSecond, ended, after, State, step}
 use Rattle.serial.specs.Demand.{Verdict, saidDone, saidConflict, removed, verdict, stands, times, In, Before}
-use Rattle.serial.proofs.CaseLaws.{some≢none, option-case}
-use Rattle.serial.proofs.HostLaws.{Counted, Sound, bare, owner-eq, owner-of, owned-bare, full, address-owner, good-left, address-full, new-full, bare-new, less-bare, put-at, put-off, lacks-one}
+use Rattle.zone.proofs.ZoneLaws.{some≢none, option-case, owner-eq, owner-of, address-owner, good-left, put-at, put-off}
+use Rattle.serial.proofs.HostLaws.{bare, owned-bare, full, address-full, new-full, bare-new, less-bare, lacks-one}
 use Rattle.serial.proofs.RequestLaws.{state, step-A-new, step-A-full, step-A-there, step-B-absent, step-B-other, step-B-full, step-B-done, step-1-other, step-1-own, step-2-kept, step-2-gone, step-1-absent, step-2-absent, whole, whole-new, whole-absent, whole-conflict, whole-done, whole-other, whole-kept, whole-gone, outcome}
 use Rattle.serial.proofs.OrderLaws.{Says, serial, Agree, form-serial, serial-append, agree-append, agree-ext, times-append, times-in, in-append, before-left, before-cross}
 
@@ -100,7 +100,7 @@ times-one : (x i : ℕ) → times x (i ∷ []) ≡ cond (eqb x i) 1 0
 unfolding times
 times-one x i = omega arith
 
-module _ (J : ℕ → Arguments) (z₀ : Zone) (g₀ : Sound z₀) where
+module _ (J : ℕ → Arguments) (z₀ : Zone) (g₀ : Form z₀) where
   -- A remove job that is about to send its second request for the name, as its owner.
   pub record Waits (f : ℕ → Stage) (k : Octets) (h : Host) (x : ℕ) : Type 0 where
     pub stage : f x ≡ beforeSecond
@@ -181,13 +181,13 @@ module _ (J : ℕ → Arguments) (z₀ : Zone) (g₀ : Sound z₀) where
       at-p = ap (y .at) (w .0 .name) ∙ e
 
       held-g : heldBy (J p .update .dhcid) (g .owner) ≡ true
-      held-g = owner-of (J p) g (o ∙ w .0 .owner)
+      held-g = owner-of (J p .update .dhcid) (g .owner) (o ∙ w .0 .owner)
 
       held-c : heldBy (J p .update .dhcid) (c .owner) ≡ true
-      held-c = owner-of (J p) c (address-owner (J p) false g ∙ o ∙ w .0 .owner)
+      held-c = owner-of (J p .update .dhcid) (c .owner) (address-owner (J p .update) false g ∙ o ∙ w .0 .owner)
 
       first-gone : whole (J p) y ≡ state y₁ (ended gone)
-      first-gone = whole-gone (J p) y g at-p (removes p (w .0)) held-g (rw held-c (sym (owned-bare (J p) c held-c) ∙ b))
+      first-gone = whole-gone (J p) y g at-p (removes p (w .0)) held-g (rw held-c (sym (owned-bare (J p .update) c held-c) ∙ b))
 
       y₁-off : Off n y₁ y
       y₁-off k q =
@@ -361,7 +361,7 @@ module _ (J : ℕ → Arguments) (z₀ : Zone) (g₀ : Sound z₀) where
 
   -- ---- the four requests
 
-  module _ (z : Zone) (f : ℕ → Stage) (o : List ℕ) (v : Inv (At z f) f o) (form : Sound z) (i : ℕ) where
+  module _ (z : Zone) (f : ℕ → Stage) (o : List ℕ) (v : Inv (At z f) f o) (form : Form z) (i : ℕ) where
     abbrev j : Arguments
     j = J i
 
@@ -508,7 +508,7 @@ module _ (J : ℕ → Arguments) (z₀ : Zone) (g₀ : Sound z₀) where
           option-case (atName (j .update) z)
           (λ e. bool-case (ltb (z .size) 64)
           (λ r. via (beforeA c) (step-A-new j z c e r)
-          (writes live-A (ap outcome fi) (ended (done (suc c))) saidDone refl tt (absent-x e .0) (newHost (j .update)) (new-full j) (done 1)
+          (writes live-A (ap outcome fi) (ended (done (suc c))) saidDone refl tt (absent-x e .0) (newHost (j .update)) (new-full (j .update)) (done 1)
           (whole-new j x₀ kind-A (absent-x e .1) (let l : z .size < 64 = ltb-true (z .size) 64 r in omega (arith, size-same))) refl))
           (λ r. via (beforeA c) (step-A-full j z c e r) (quietly live-A (ap outcome fi) (ended (noRoom (suc c))) refl tt)))
           (λ h e. via (beforeA c) (step-A-there j z c h e) (quietly live-A (ap outcome fi) (beforeB (suc c)) refl kind-A))
@@ -541,11 +541,11 @@ module _ (J : ℕ → Arguments) (z₀ : Zone) (g₀ : Sound z₀) where
           d : Host
           d = address (j .update) true (left (j .update .family) (j .policy) h)
 
-          good : Counted h
+          good : GoodHost h
           good = form .hosts m h e
 
           full : bare d ≡ false
-          full = address-full j (left (j .update .family) (j .policy) h) (good-left j (j .policy) h good)
+          full = address-full (j .update) (left (j .update .family) (j .policy) h) (good-left (j .update .family) (j .policy) h good) r
 
           go : At z f x₀ m (v .put-off m) → Next (put (j .update .name) (some d) z) (ended (done (suc c)))
           go (shown a p w) = writes live-B (ap outcome fi) (ended (done (suc c))) saidDone refl tt a d full (done 2) (whole-done j x₀ h (p ∙ e) kind-B q r) refl
@@ -554,7 +554,7 @@ module _ (J : ℕ → Arguments) (z₀ : Zone) (g₀ : Sound z₀) where
               let y : Zone = serial J z₀ (o ++ (p ∷ ps)) in
               let ya : y .at m ≡ none = fl .0 .names m .0 refl .0 in
               let within : (x : Octets) → there (y .at x) ≡ true → there (z .at x) ≡ true = λ x h. on x h (fl .0 .names x) (same-dec m x) in
-              let s : d ≡ newHost (j .update) = bare-new j h good q (ap bare (the-same h k e l) ∙ b) in
+              let s : d ≡ newHost (j .update) = bare-new (j .update) (j .policy) h good q (ap bare (the-same h k e l) ∙ b) in
               let sz : y .size < z .size = lacks-one y z m k (form-serial J z₀ (o ++ (p ∷ ps)) g₀ .names) (form .names) within ya l in
               let wh : whole j y ≡ state (put (j .update .name) (some d) y) (ended (done 1)) =
               subst (λ (x : Host). whole j y ≡ state (put (j .update .name) (some x) y) (ended (done 1))) (sym s) (whole-new j y kind-B ya (omega (arith, form .few))) in (
@@ -605,10 +605,10 @@ module _ (J : ℕ → Arguments) (z₀ : Zone) (g₀ : Sound z₀) where
           z′ = put (j .update .name) (some c) z
 
           owner-c : c .owner ≡ some (j .update .dhcid)
-          owner-c = address-owner j false h ∙ owner-eq j h q
+          owner-c = address-owner (j .update) false h ∙ owner-eq (j .update .dhcid) (h .owner) q
 
           held-c : heldBy (j .update .dhcid) (c .owner) ≡ true
-          held-c = owner-of j c owner-c
+          held-c = owner-of (j .update .dhcid) (c .owner) owner-c
 
           me : Waits (stand f i beforeSecond) m c i
           me = record { stage = stand-same f i beforeSecond; name = refl; owner = owner-c }
@@ -617,21 +617,21 @@ module _ (J : ℕ → Arguments) (z₀ : Zone) (g₀ : Sound z₀) where
           on k l x r = record {
             stage = stand-other f i beforeSecond x (λ p. none≢2 (ap outcome fi) (ap f (sym p) ∙ r .stage)) ∙ r .stage;
             name = r .name;
-            owner = address-owner j false h ∙ ap (λ (u : Host). u .owner) (the-same h k e l) ∙ r .owner;
+            owner = address-owner (j .update) false h ∙ ap (λ (u : Host). u .owner) (the-same h k e l) ∙ r .owner;
           }
 
           go : At z f x₀ m (v .put-off m) → Next z′ beforeSecond
           go (shown a p w) =
               bool-case (bare c)
               (λ b. defer live-1 (ap outcome fi) z′ kind-1 (put-off (j .update .name) (some c) z)
-              (emptied c h i [] (ap (λ (l : List ℕ). l ++ (i ∷ [])) a) (put-at (j .update .name) (some c) z) b (p ∙ e) (sym (address-owner j false h)) b (me, tt)))
+              (emptied c h i [] (ap (λ (l : List ℕ). l ++ (i ∷ [])) a) (put-at (j .update .name) (some c) z) b (p ∙ e) (sym (address-owner (j .update) false h)) b (me, tt)))
               (λ b. writes live-1 (ap outcome fi) beforeSecond removed refl kind-1 a c b kept
-              (whole-kept j x₀ h (p ∙ e) kind-1 q (rw held-c (sym (owned-bare j c held-c) ∙ b))) refl)
+              (whole-kept j x₀ h (p ∙ e) kind-1 q (rw held-c (sym (owned-bare (j .update) c held-c) ∙ b))) refl)
           go (emptied k g p ps a l b t u n w) =
               let s : h ≡ k = the-same h k e l in
               defer live-1 (ap outcome fi) z′ kind-1 (put-off (j .update .name) (some c) z)
-              (emptied c g p (ps ++ (i ∷ [])) (ap (λ (l : List ℕ). l ++ (i ∷ [])) a) (put-at (j .update .name) (some c) z) (less-bare j h (form .hosts m h e) q (ap bare s ∙ b)) t
-              (u ∙ sym (address-owner j false h ∙ ap (λ (x : Host). x .owner) s)) n
+              (emptied c g p (ps ++ (i ∷ [])) (ap (λ (l : List ℕ). l ++ (i ∷ [])) a) (put-at (j .update .name) (some c) z) (less-bare (j .update) h (form .hosts m h e) q (ap bare s ∙ b)) t
+              (u ∙ sym (address-owner (j .update) false h ∙ ap (λ (x : Host). x .owner) s)) n
               (all-more (Waits (stand f i beforeSecond) m c) (p ∷ ps) i me (all-map (Waits f m k) (Waits (stand f i beforeSecond) m c) (on k l) (p ∷ ps) w)))
 
       move-1 : Next (step j z beforeFirst .zone) (step j z beforeFirst .stage)
@@ -656,7 +656,7 @@ module _ (J : ℕ → Arguments) (z₀ : Zone) (g₀ : Sound z₀) where
 
           go : At z f x₀ m (v .put-off m) → Next (put (j .update .name) none z) (ended gone)
           go (shown a d w) =
-              absurd (w h e (owned-bare j h own ∙ and-right (heldBy (j .update .dhcid) (h .owner)) (empty h) q) i (record { stage = fi; name = refl; owner = owner-eq j h own }))
+              absurd (w h e (owned-bare (j .update) h own ∙ and-right (heldBy (j .update .dhcid) (h .owner)) (empty h) q) i (record { stage = fi; name = refl; owner = owner-eq (j .update .dhcid) (h .owner) own }))
           go (emptied k g p ps a l b t u n w) =
               let fl = flush z f o v m k g p ps a t u n w in (
                 o ++ (p ∷ ps),
@@ -677,9 +677,9 @@ module _ (J : ℕ → Arguments) (z₀ : Zone) (g₀ : Sound z₀) where
           no-way : (h : Host) → z .at m ≡ some h → (heldBy (j .update .dhcid) (h .owner) && empty h) ≡ false → (k : Host) → z .at m ≡ some k → bare k ≡ true → Waits f m k i → ⊥
           no-way h e q k p b w =
               let s : h ≡ k = the-same h k e p in
-              let u : heldBy (j .update .dhcid) (k .owner) ≡ true = owner-of j k (w .owner) in
+              let u : heldBy (j .update .dhcid) (k .owner) ≡ true = owner-of (j .update .dhcid) (k .owner) (w .owner) in
               let t : (heldBy (j .update .dhcid) (k .owner) && empty k) ≡ false = subst (λ (x : Host). (heldBy (j .update .dhcid) (x .owner) && empty x) ≡ false) s q in
-              true≢false (sym b ∙ owned-bare j k u ∙ rw u at t)
+              true≢false (sym b ∙ owned-bare (j .update) k u ∙ rw u at t)
 
     pub move : (s : Stage) → f i ≡ s → Next (step j z s .zone) (step j z s .stage)
     move (beforeA c) fi = move-A c fi

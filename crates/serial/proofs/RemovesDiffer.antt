@@ -15,7 +15,7 @@ use Rattle.hosts.proofs.CountLaws.{true≢false}
 use Rattle.zone.specs.Zone.{Zone, with, put, heldBy, empty, address, requestA, left, fits, writeB, requestB, removeAddress, removeName}
 use Rattle.job.specs.Jobs.{Arguments, End, done, conflict, gone, kept, Stage, ended, fresh, after, afterFirst, afterSecond, step, Sends, has-ended, sends}
 use Rattle.serial.specs.Demand.{going, times, Story}
-use Rattle.serial.proofs.CaseLaws.{some≢none}
+use Rattle.zone.proofs.ZoneLaws.{some≢none}
 use Rattle.serial.proofs.Demand.{js}
 use Rattle.serial.proofs.Cases.{byRule, pipe, xRemoves, xAdds, oneAddress, xHost, heldByX, form-one, r₃, r₄, between}
 

@@ -4,128 +4,94 @@ use mathlib.Core.Bool.{true, false, _&&_}
 use mathlib.Core.Option.{Option, none, some}
 use Prim.Native.Nat.{ℕ, suc, _<_}
 use lib.Dec.{ltb}
-use borrow.Author.Tests.{ltb-true, lt-ltb}
-use Rattle.dname.specs.Name.{key}
+use borrow.Author.Tests.{ltb-true, ltb-false, lt-ltb}
 use Rattle.hosts.proofs.CountLaws.{bool-case}
-use Rattle.zone.specs.Zone.{Host, Zone, put, NXDOMAIN, atName, heldBy, empty, address, newHost, requestA, left, fits, writeB, requestB, removeAddress, removeName}
+use Rattle.zone.specs.Zone.{Host, Zone, Form, put, Update, NXDOMAIN, atName, heldBy, empty, address, newHost, left, fits}
 use Rattle.job.specs.Jobs.{add, remove, Arguments, End, done, conflict, noRoom, notOurs, gone, kept, Stage, beforeA, beforeB, beforeFirst, beforeSecond, ended, firstStage, fresh, after, afterFirst, afterSecond, State, step, Sends, has-ended, sends}
 use Rattle.serial.specs.Demand.{Verdict, removed, verdict}
-use Rattle.serial.proofs.CaseLaws.{some≢none, option-case}
-use Rattle.serial.proofs.HostLaws.{Sound, good-address, good-left, good-new, put-at, form-new, form-change, form-delete}
+use Rattle.zone.proofs.ZoneLaws.{some≢none, option-case, put-at, A-new, A-full, A-there, B-absent, B-other, B-full, B-done, remove-address-absent, remove-address-other, remove-address-own, remove-name-absent, remove-name-kept, remove-name-gone}
+use Rattle.zone.proofs.RequestLaws.{form-lasts, A-effect, B-effect, remove-address-effect, remove-name-effect}
 
 abbrev pub state : Zone → Stage → State
 state z s = record { zone = z; stage = s }
 
 module _ (j : Arguments) (z : Zone) where
-  pub step-A-new : (n : ℕ) → atName (j .update) z ≡ none → ltb (z .size) 64 ≡ true
-      → step j z (beforeA n) ≡ state (put (j .update .name) (some (newHost (j .update))) z) (ended (done (suc n)))
-  unfolding step requestA after
-  step-A-new n h r = rw (h, requestA, r)
+  abbrev u : Update
+  u = j .update
 
-  pub step-A-full : (n : ℕ) → atName (j .update) z ≡ none → ltb (z .size) 64 ≡ false → step j z (beforeA n) ≡ state z (ended (noRoom (suc n)))
-  unfolding step requestA after
-  step-A-full n h r = rw (h, requestA, r)
+  abbrev kept-left : Host → Host
+  kept-left h = left (u .family) (j .policy) h
 
-  pub step-A-there : (n : ℕ) (h : Host) → atName (j .update) z ≡ some h → step j z (beforeA n) ≡ state z (beforeB (suc n))
-  unfolding step requestA after
-  step-A-there n h e = rw (e, requestA)
+  pub step-A-new : (n : ℕ) → atName u z ≡ none → ltb (z .size) 64 ≡ true
+      → step j z (beforeA n) ≡ state (put (u .name) (some (newHost u)) z) (ended (done (suc n)))
+  unfolding step after
+  step-A-new n e r = rw (A-new u z e (ltb-true (z .size) 64 r)) refl
 
-  pub step-B-absent : (n : ℕ) → atName (j .update) z ≡ none → step j z (beforeB n) ≡ state z (after (suc n) NXDOMAIN)
-  unfolding step requestB
-  step-B-absent n e = rw (e, requestB)
+  pub step-A-full : (n : ℕ) → atName u z ≡ none → ltb (z .size) 64 ≡ false → step j z (beforeA n) ≡ state z (ended (noRoom (suc n)))
+  unfolding step after
+  step-A-full n e r = rw (A-full u z e (ltb-false (z .size) 64 r)) refl
 
-  module _ (h : Host) (e : atName (j .update) z ≡ some h) where
-    pub step-B-other : (n : ℕ) → heldBy (j .update .dhcid) (h .owner) ≡ false → step j z (beforeB n) ≡ state z (ended (conflict (suc n)))
-    unfolding step requestB after
-    step-B-other n o = rw (e, requestB, o)
+  pub step-A-there : (n : ℕ) (h : Host) → atName u z ≡ some h → step j z (beforeA n) ≡ state z (beforeB (suc n))
+  unfolding step after
+  step-A-there n h e = rw (A-there u z h e) refl
 
-    pub step-B-full : (n : ℕ) → heldBy (j .update .dhcid) (h .owner) ≡ true → fits (j .update) (left (j .update .family) (j .policy) h) ≡ false
-        → step j z (beforeB n) ≡ state z (ended (noRoom (suc n)))
-    unfolding step requestB writeB after
-    step-B-full n o r = rw (e, requestB, o, r)
+  pub step-B-absent : (n : ℕ) → atName u z ≡ none → step j z (beforeB n) ≡ state z (after (suc n) NXDOMAIN)
+  unfolding step
+  step-B-absent n e = rw (B-absent u z (j .policy) e) refl
 
-    pub step-B-done : (n : ℕ) → heldBy (j .update .dhcid) (h .owner) ≡ true → fits (j .update) (left (j .update .family) (j .policy) h) ≡ true
-        → step j z (beforeB n) ≡ state (put (j .update .name) (some (address (j .update) true (left (j .update .family) (j .policy) h))) z) (ended (done (suc n)))
-    unfolding step requestB writeB after
-    step-B-done n o r = rw (e, requestB, o, r)
+  module _ (h : Host) (e : atName u z ≡ some h) where
+    pub step-B-other : (n : ℕ) → heldBy (u .dhcid) (h .owner) ≡ false → step j z (beforeB n) ≡ state z (ended (conflict (suc n)))
+    unfolding step after
+    step-B-other n o = rw (B-other u z h e (j .policy) o) refl
 
-    pub step-1-other : heldBy (j .update .dhcid) (h .owner) ≡ false → step j z beforeFirst ≡ state z (ended notOurs)
-    unfolding step removeAddress afterFirst
-    step-1-other o = rw (e, removeAddress, o)
+    pub step-B-full : (n : ℕ) → heldBy (u .dhcid) (h .owner) ≡ true → fits u (kept-left h) ≡ false → step j z (beforeB n) ≡ state z (ended (noRoom (suc n)))
+    unfolding step after
+    step-B-full n o r = rw (B-full u z h e (j .policy) o r) refl
 
-    pub step-1-own : heldBy (j .update .dhcid) (h .owner) ≡ true → step j z beforeFirst ≡ state (put (j .update .name) (some (address (j .update) false h)) z) beforeSecond
-    unfolding step removeAddress afterFirst
-    step-1-own o = rw (e, removeAddress, o)
+    pub step-B-done : (n : ℕ) → heldBy (u .dhcid) (h .owner) ≡ true → fits u (kept-left h) ≡ true
+        → step j z (beforeB n) ≡ state (put (u .name) (some (address u true (kept-left h))) z) (ended (done (suc n)))
+    unfolding step after
+    step-B-done n o r = rw (B-done u z h e (j .policy) o r) refl
 
-    pub step-2-kept : (heldBy (j .update .dhcid) (h .owner) && empty h) ≡ false → step j z beforeSecond ≡ state z (ended kept)
-    unfolding step removeName afterSecond
-    step-2-kept o = rw (e, removeName, o)
+    pub step-1-other : heldBy (u .dhcid) (h .owner) ≡ false → step j z beforeFirst ≡ state z (ended notOurs)
+    unfolding step afterFirst
+    step-1-other o = rw (remove-address-other u z h e o) refl
 
-    pub step-2-gone : (heldBy (j .update .dhcid) (h .owner) && empty h) ≡ true → step j z beforeSecond ≡ state (put (j .update .name) none z) (ended gone)
-    unfolding step removeName afterSecond
-    step-2-gone o = rw (e, removeName, o)
+    pub step-1-own : heldBy (u .dhcid) (h .owner) ≡ true → step j z beforeFirst ≡ state (put (u .name) (some (address u false h)) z) beforeSecond
+    unfolding step afterFirst
+    step-1-own o = rw (remove-address-own u z h e o) refl
 
-  pub step-1-absent : atName (j .update) z ≡ none → step j z beforeFirst ≡ state z (ended notOurs)
-  unfolding step removeAddress afterFirst
-  step-1-absent e = rw (e, removeAddress)
+    pub step-2-kept : (heldBy (u .dhcid) (h .owner) && empty h) ≡ false → step j z beforeSecond ≡ state z (ended kept)
+    unfolding step afterSecond
+    step-2-kept o = rw (remove-name-kept u z h e o) refl
 
-  pub step-2-absent : atName (j .update) z ≡ none → step j z beforeSecond ≡ state z (ended kept)
-  unfolding step removeName afterSecond
-  step-2-absent e = rw (e, removeName)
+    pub step-2-gone : (heldBy (u .dhcid) (h .owner) && empty h) ≡ true → step j z beforeSecond ≡ state (put (u .name) none z) (ended gone)
+    unfolding step afterSecond
+    step-2-gone o = rw (remove-name-gone u z h e o) refl
+
+  pub step-1-absent : atName u z ≡ none → step j z beforeFirst ≡ state z (ended notOurs)
+  unfolding step afterFirst
+  step-1-absent e = rw (remove-address-absent u z e) refl
+
+  pub step-2-absent : atName u z ≡ none → step j z beforeSecond ≡ state z (ended kept)
+  unfolding step afterSecond
+  step-2-absent e = rw (remove-name-absent u z e) refl
 
 -- A step keeps the form.
-module _ (j : Arguments) (z : Zone) (g : Sound z) where
-  abbrev Formed : State → Type 0
-  Formed w = Sound (w .zone)
-
-  via : {v w : State} → v ≡ w → Formed w → Formed v
-  via e f = subst Formed (sym e) f
-
-  form-A : (n : ℕ) → Formed (step j z (beforeA n))
-  form-A n =
-      option-case (atName (j .update) z)
-      (λ e. bool-case (ltb (z .size) 64)
-      (λ r. via (step-A-new j z n e r) (form-new (j .update .name) (newHost (j .update)) z g (good-new j) e (ltb-true (z .size) 64 r)))
-      (λ r. via (step-A-full j z n e r) g))
-      (λ h e. via (step-A-there j z n h e) g)
-
-  form-B : (n : ℕ) → Formed (step j z (beforeB n))
-  form-B n =
-      option-case (atName (j .update) z) (λ e. via (step-B-absent j z n e) g)
-      (λ h e. bool-case (heldBy (j .update .dhcid) (h .owner))
-      (λ o. bool-case (fits (j .update) (left (j .update .family) (j .policy) h))
-      (λ r. via (step-B-done j z h e n o r)
-      (form-change (j .update .name) (address (j .update) true (left (j .update .family) (j .policy) h)) h z g (good-address j true (left (j .update .family) (j .policy) h) (good-left j (j .policy) h (g .hosts (key (j .update .name)) h e))) e))
-      (λ r. via (step-B-full j z h e n o r) g))
-      (λ o. via (step-B-other j z h e n o) g))
-
-  form-1 : Formed (step j z beforeFirst)
-  form-1 =
-      option-case (atName (j .update) z) (λ e. via (step-1-absent j z e) g)
-      (λ h e. bool-case (heldBy (j .update .dhcid) (h .owner))
-      (λ o. via (step-1-own j z h e o) (form-change (j .update .name) (address (j .update) false h) h z g (good-address j false h (g .hosts (key (j .update .name)) h e)) e))
-      (λ o. via (step-1-other j z h e o) g))
-
-  form-2 : Formed (step j z beforeSecond)
-  form-2 =
-      option-case (atName (j .update) z) (λ e. via (step-2-absent j z e) g)
-      (λ h e. bool-case (heldBy (j .update .dhcid) (h .owner) && empty h)
-      (λ o. via (step-2-gone j z h e o) (form-delete (j .update .name) h z g e))
-      (λ o. via (step-2-kept j z h e o) g))
-
-  pub form-step : (s : Stage) → Sound (step j z s .zone)
-  form-step (beforeA n) = form-A n
-  form-step (beforeB n) = form-B n
-  form-step beforeFirst = form-1
-  form-step beforeSecond = form-2
-  form-step (ended e) = unfold step in g
+pub form-step : (j : Arguments) (z : Zone) → Form z → (s : Stage) → Form (step j z s .zone)
+unfolding step
+form-step j z g (beforeA n) = form-lasts (A-effect (j .update) z) g
+form-step j z g (beforeB n) = form-lasts (B-effect (j .update) z (j .policy)) g
+form-step j z g beforeFirst = form-lasts (remove-address-effect (j .update) z) g
+form-step j z g beforeSecond = form-lasts (remove-name-effect (j .update) z) g
+form-step j z g (ended e) = g
 
 -- ---- a whole job: alone, two steps end it
 
 unfoldable pub whole : Arguments → Zone → State
 whole j z = step j (step j z (fresh j) .zone) (step j z (fresh j) .stage)
 
-pub form-whole : (j : Arguments) (z : Zone) → Sound z → Sound (whole j z .zone)
+pub form-whole : (j : Arguments) (z : Zone) → Form z → Form (whole j z .zone)
 unfolding whole
 form-whole j z g = form-step j (step j z (fresh j) .zone) (form-step j z g (fresh j)) (step j z (fresh j) .stage)
 

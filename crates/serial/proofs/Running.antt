@@ -17,7 +17,7 @@ use Rattle.serial.specs.Demand.{Calls, Promises, Demand3, Stronger, Ends
 use Rattle.serial.specs.Running.{FormedZone, NewCall, new-add, new-remove, running, Delivered}
 use Rattle.serial.proofs.StageLaws.{possible-step}
 use Rattle.serial.proofs.Demand.{stronger, demand3}
-use Rattle.serial.proofs.InTime.{Taken, ends-in-time, never-refused}
+use Rattle.serial.proofs.InTime.{Taken, ends-in-time, never-refused, six-at-most}
 
 new-job : (j : Arguments) (k : Job) → NewCall j k → jobOf k ≡ record { arguments = j; stage = fresh j }
 unfolding fresh
@@ -78,4 +78,5 @@ delivered = record {
   stronger = stronger running kept-promises;
   ends-in-time = ends-in-time running kept-promises;
   never-refused = never-refused running (λ z. formed z ≡ true) Ok taken;
+  six-at-most = six-at-most running kept-promises;
 }

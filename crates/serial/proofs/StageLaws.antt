@@ -1,28 +1,14 @@
 use mathlib.Core.Path.{_≡_, refl, sym, subst}
-use mathlib.Core.Bool.{Bool, true, false, _&&_, _||_}
-use mathlib.Core.List.{List, [], _∷_}
-use Prim.Native.Nat.{ℕ, suc}
-use lib.Dec.{eqb, ltb}
-use borrow.Author.Tests.{eqb-true}
-use Rattle.hosts.proofs.CountLaws.{true≢false, bool-case}
+use mathlib.Core.Bool.{true, _&&_}
+use mathlib.Core.List.{[], _∷_}
+use Prim.Native.Nat.{suc}
+use lib.Dec.{ltb}
+use Rattle.hosts.proofs.CountLaws.{bool-case}
 use Rattle.zone.specs.Zone.{Zone, NXDOMAIN, atName, heldBy, empty, left, fits}
 use Rattle.job.specs.Jobs.{Kind, add, remove, Arguments, done, conflict, noRoom, Stage, beforeA, beforeB, beforeFirst, beforeSecond, ended, among, possible, firstStage, fresh, after, State, step}
-use Rattle.serial.proofs.CaseLaws.{option-case}
+use Rattle.zone.proofs.ZoneLaws.{option-case}
+use Rattle.job.proofs.StageLaws.{each-among}
 use Rattle.serial.proofs.RequestLaws.{step-A-new, step-A-full, step-A-there, step-B-absent, step-B-other, step-B-full, step-B-done, step-1-other, step-1-own, step-2-kept, step-2-gone, step-1-absent, step-2-absent}
-
--- a fact of the numbers of a list holds of each number among them
-abbrev pub Each : (ℕ → Type 0) → List ℕ → Type 0
-Each P [] = Unit
-Each P (x ∷ l) = P x × Each P l
-
-pub each-among : (P : ℕ → Type 0) (n : ℕ) (l : List ℕ) → Each P l → among n l ≡ true → P n
-unfolding among
-each-among P n [] h e = absurd (true≢false (sym e))
-each-among P n (x ∷ l) h e = go (eqb n x) refl e (each-among P n l (h .1))
-  where
-    go : (b : Bool) → eqb n x ≡ b → (b || among n l) ≡ true → (among n l ≡ true → P n) → P n
-    go true p q f = subst P (sym (eqb-true n x p)) (h .0)
-    go false p q f = f q
 
 pub possible-fresh : (j : Arguments) → possible (fresh j) ≡ true
 unfolding fresh

@@ -4,7 +4,7 @@ use mathlib.Core.Bool.{Bool, true, false, cond, _&&_}
 use mathlib.Core.List.{List, [], _∷_, map}
 use mathlib.Core.Logic.{_⊎_}
 use mathlib.Core.Option.{Option, none, some}
-use Prim.Native.Nat.{ℕ, _+_, _<_}
+use Prim.Native.Nat.{ℕ, _+_, _≤_, _<_}
 use lib.Dec.{eqb}
 use lib.ListN.{getElem?, set}
 use Rattle.hosts.specs.Count.{Octets}
@@ -195,3 +195,7 @@ abbrev pub NeverRefused : Calls → Type 0
 NeverRefused C =
     (z₀ z : C .Z) (js : List Arguments) (ks₀ ks : List (C .J)) → C .Formed z₀ → Fresh C js ks₀ → Steps C z₀ ks₀ z ks
     → (i : ℕ) (k : C .J) (r : C .R) → getElem? ks i ≡ some k → C .Step z k r → C .refusal r ≡ 0
+
+-- No add reports more than six requests.
+abbrev pub SixAtMost : Calls → Type 0
+SixAtMost C = (s : Story C) (i : ℕ) (e : End) (n : ℕ) → getElem? (s .ends) i ≡ some e → sent e ≡ some n → n ≤ 6

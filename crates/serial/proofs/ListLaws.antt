@@ -1,16 +1,9 @@
 use mathlib.Core.Path.{_≡_, refl, sym, ap}
 use mathlib.Core.List.{List, [], _∷_}
-use mathlib.Core.Option.{Option, none, some}
+use mathlib.Core.Option.{some}
 use Prim.Native.Nat.{ℕ, zero, suc}
-use native.Mathlib.Omega.{arith}
 use lib.ListN.{getElem?, set}
-
-pub some≢none : {A : Type 0} {a : A} → _≡_ {A = Option A} (some a) none → ⊥
-some≢none {a = a} e = let z : _≡_ {A = ℕ} 0 1 = cc in omega arith
-
-pub option-case {ℓ} : {A : Type 0} {P : Type ℓ} (o : Option A) → (o ≡ none → P) → ((a : A) → o ≡ some a → P) → P
-option-case none f g = f refl
-option-case (some a) f g = g a refl
+use Rattle.zone.proofs.ZoneLaws.{some≢none}
 
 pub set-same : {A : Type 0} (l : List A) (i : ℕ) (a b : A) → getElem? l i ≡ some a → getElem? (set l i b) i ≡ some b
 set-same [] i a b e = absurd (some≢none (sym e))
