@@ -1,0 +1,122 @@
+-- Where each answer's number leads a job. Assumes nothing.
+use mathlib.Core.Path.{_≡_, refl, sym, _∙_, ap}
+use mathlib.Core.Bool.{Bool, true, false, cond}
+use Prim.Native.Nat.{ℕ, suc, _+_}
+use native.Mathlib.Numerals.{add-one}
+use native.Mathlib.Omega.{arith}
+use lib.Dec.{eqb}
+use borrow.Author.Tests.{eq-eqb, ne-eqb}
+use Rattle.zone.specs.Zone.{Answer, success, YXDOMAIN, NXDOMAIN, NXRRSET, noRoom}
+use Rattle.zone.specs.Promise.{numberOf}
+use Rattle.job.specs.declared.job.Job.{Job}
+use Rattle.job.specs.Jobs.{Stage, beforeA, beforeSecond, ended, gaveUp, notOurs, gone, kept, after, passed, afterFirst, afterSecond}
+use Rattle.job.specs.Meaning.{stageNumber, stageCount, atStage}
+use Rattle.job.specs.Inner.{placed, Leads}
+
+-- ---- a number tells its answer
+
+is-success : (a : Answer) → 0 ≡ numberOf a → a ≡ success
+unfolding numberOf
+is-success success e = refl
+is-success YXDOMAIN e = absurd (omega arith)
+is-success NXDOMAIN e = absurd (omega arith)
+is-success NXRRSET e = absurd (omega arith)
+is-success noRoom e = absurd (omega arith)
+
+is-yxdomain : (a : Answer) → 6 ≡ numberOf a → a ≡ YXDOMAIN
+unfolding numberOf
+is-yxdomain success e = absurd (omega arith)
+is-yxdomain YXDOMAIN e = refl
+is-yxdomain NXDOMAIN e = absurd (omega arith)
+is-yxdomain NXRRSET e = absurd (omega arith)
+is-yxdomain noRoom e = absurd (omega arith)
+
+is-nxrrset : (a : Answer) → 8 ≡ numberOf a → a ≡ NXRRSET
+unfolding numberOf
+is-nxrrset success e = absurd (omega arith)
+is-nxrrset YXDOMAIN e = absurd (omega arith)
+is-nxrrset NXDOMAIN e = absurd (omega arith)
+is-nxrrset NXRRSET e = refl
+is-nxrrset noRoom e = absurd (omega arith)
+
+is-no-room : (a : Answer) → 256 ≡ numberOf a → a ≡ noRoom
+unfolding numberOf
+is-no-room success e = absurd (omega arith)
+is-no-room YXDOMAIN e = absurd (omega arith)
+is-no-room NXDOMAIN e = absurd (omega arith)
+is-no-room NXRRSET e = absurd (omega arith)
+is-no-room noRoom e = refl
+
+is-nxdomain : (a : Answer) (x : ℕ) → (x ≡ 0 → ⊥) → (x ≡ 6 → ⊥) → (x ≡ 8 → ⊥) → (x ≡ 256 → ⊥) → x ≡ numberOf a → a ≡ NXDOMAIN
+unfolding numberOf
+is-nxdomain success x a b c d e = absurd (a e)
+is-nxdomain YXDOMAIN x a b c d e = absurd (b e)
+is-nxdomain NXDOMAIN x a b c d e = refl
+is-nxdomain NXRRSET x a b c d e = absurd (c e)
+is-nxdomain noRoom x a b c d e = absurd (d e)
+
+failed : (a : Answer) (x : ℕ) → (x ≡ 0 → ⊥) → x ≡ numberOf a → passed a ≡ false
+unfolding numberOf
+failed success x n e = absurd (n e)
+failed YXDOMAIN x n e = refl
+failed NXDOMAIN x n e = refl
+failed NXRRSET x n e = refl
+failed noRoom x n e = refl
+
+-- ---- an add, n requests sent before this one
+
+module _ (j : Job) (x n : ℕ) where
+  -- the job at the stage that the rule gives for one answer is the job at that for another that is the same
+  by : (rule : Answer → Stage) (a b : Answer) → a ≡ b → atStage j (rule b) ≡ atStage j (rule a)
+  by rule a b e = ap (λ (c : Answer). atStage j (rule c)) (sym e)
+
+  counted : (stage : ℕ) → placed j stage (n + 1) ≡ placed j stage (suc n)
+  counted stage = ap (placed j stage) (add-one n)
+
+  pub leads-done : x ≡ 0 → Leads j x (after (suc n)) (placed j 3 (n + 1))
+  unfolding after atStage stageNumber stageCount
+  leads-done e a q = counted 3 ∙ by (after (suc n)) a success (is-success a (sym e ∙ q))
+
+  pub leads-b : x ≡ 6 → Leads j x (after (suc n)) (placed j 2 (n + 1))
+  unfolding after atStage stageNumber stageCount
+  leads-b e a q = counted 2 ∙ by (after (suc n)) a YXDOMAIN (is-yxdomain a (sym e ∙ q))
+
+  pub leads-conflict : x ≡ 8 → Leads j x (after (suc n)) (placed j 4 (n + 1))
+  unfolding after atStage stageNumber stageCount
+  leads-conflict e a q = counted 4 ∙ by (after (suc n)) a NXRRSET (is-nxrrset a (sym e ∙ q))
+
+  pub leads-no-room : x ≡ 256 → Leads j x (after (suc n)) (placed j 5 (n + 1))
+  unfolding after atStage stageNumber stageCount
+  leads-no-room e a q = counted 5 ∙ by (after (suc n)) a noRoom (is-no-room a (sym e ∙ q))
+
+  module _ (u : x ≡ 0 → ⊥) (v : x ≡ 6 → ⊥) (w : x ≡ 8 → ⊥) (y : x ≡ 256 → ⊥) where
+    pub leads-gave-up : n + 1 ≡ 6 → Leads j x (after (suc n)) (placed j 6 (n + 1))
+    unfolding after atStage stageNumber stageCount
+    leads-gave-up e a q =
+        counted 6 ∙ ap (λ (b : Bool). atStage j (cond b (ended (gaveUp (suc n))) (beforeA (suc n)))) (sym (eq-eqb (suc n) 6 (sym (add-one n) ∙ e)))
+        ∙ by (after (suc n)) a NXDOMAIN (is-nxdomain a x u v w y q)
+
+    pub leads-a : (n + 1 ≡ 6 → ⊥) → Leads j x (after (suc n)) (placed j 1 (n + 1))
+    unfolding after atStage stageNumber stageCount
+    leads-a e a q =
+        counted 1 ∙ ap (λ (b : Bool). atStage j (cond b (ended (gaveUp (suc n))) (beforeA (suc n)))) (sym (ne-eqb (suc n) 6 (λ p. e (add-one n ∙ p))))
+        ∙ by (after (suc n)) a NXDOMAIN (is-nxdomain a x u v w y q)
+
+-- ---- a remove
+
+module _ (j : Job) (x : ℕ) where
+  pub leads-second : x ≡ 0 → Leads j x afterFirst (placed j 12 (j .count))
+  unfolding afterFirst atStage stageNumber stageCount
+  leads-second e a q = ap (λ (c : Answer). atStage j (afterFirst c)) (sym (is-success a (sym e ∙ q)))
+
+  pub leads-not-ours : (x ≡ 0 → ⊥) → Leads j x afterFirst (placed j 13 (j .count))
+  unfolding afterFirst atStage stageNumber stageCount
+  leads-not-ours n a q = ap (λ (b : Bool). atStage j (cond b beforeSecond (ended notOurs))) (sym (failed a x n q))
+
+  pub leads-gone : x ≡ 0 → Leads j x afterSecond (placed j 14 (j .count))
+  unfolding afterSecond atStage stageNumber stageCount
+  leads-gone e a q = ap (λ (c : Answer). atStage j (afterSecond c)) (sym (is-success a (sym e ∙ q)))
+
+  pub leads-kept : (x ≡ 0 → ⊥) → Leads j x afterSecond (placed j 15 (j .count))
+  unfolding afterSecond atStage stageNumber stageCount
+  leads-kept n a q = ap (λ (b : Bool). atStage j (cond b (ended gone) (ended kept))) (sym (failed a x n q))

@@ -1,0 +1,241 @@
+-- What a struct means after a step, and after a new job call: all that a layer above needs of the structs. Assumes nothing.
+use mathlib.Core.Path.{_≡_, refl, sym, _∙_, ap, subst}
+use mathlib.Core.Bool.{Bool, true, false, cond, _&&_, or-false}
+use mathlib.Core.List.{List, [], _∷_}
+use Prim.Native.Nat.{ℕ, zero, suc}
+use native.Mathlib.Omega.{arith}
+use lib.Dec.{eqb, leb}
+use borrow.Author.Tests.{eq-eqb, ne-eqb}
+use Rattle.hosts.specs.Count.{Octets}
+use Rattle.hosts.proofs.CountLaws.{true≢false, bool-case, and-left, and-right}
+use Rattle.zone.specs.declared.survey.Zone.{Zone}
+use Rattle.zone.specs.declared.name.Name.{Name}
+use Rattle.zone.specs.declared.entry.Dhcid.{Dhcid}
+use Rattle.zone.specs.declared.entry.Address.{Address}
+use Rattle.zone.specs.Zone as abstract
+use Rattle.zone.specs.Zone.{Answer, success, YXDOMAIN, NXDOMAIN, NXRRSET, noRoom, keepOthers, requestA, requestB, removeAddress, removeName}
+use Rattle.zone.specs.Meaning.{nameOf, isFull, listed, policyOf, updateOf, zoneOf, formed}
+use Rattle.job.specs.declared.job.Job.{Job}
+use Rattle.job.specs.declared.fresh.NewJob.{NewJob}
+use Rattle.job.specs.declared.step.Stepped.{Stepped}
+use Rattle.job.specs.Jobs as rules
+use Rattle.job.specs.Jobs.{Kind, add, remove, Arguments, Stage, beforeA, beforeB, beforeFirst, beforeSecond, ended, End, done, conflict, gaveUp, notOurs, gone, kept, among, possible, fresh, after, passed, afterFirst, afterSecond, step}
+use Rattle.job.specs.Meaning.{stageNumber, stageCount, stageOf, stageListed, canHave, isAdd, argumentsOf, jobOf, atStage, numbersListed, freshAdd, freshRemove, blank}
+use Rattle.job.proofs.StageLaws.{not-listed}
+use Rattle.job.specs.Promise.{newRefusal, newJob, stepRefusal, stepOf, StepPromise}
+
+-- ---- a stage's number and count stand for the stage
+
+pub stage-back : (s : Stage) (m : ℕ) → stageOf (stageNumber s) (stageCount s m) ≡ s
+unfolding stageOf stageNumber stageCount
+stage-back (beforeA n) m = refl
+stage-back (beforeB n) m = refl
+stage-back beforeFirst m = refl
+stage-back beforeSecond m = refl
+stage-back (ended (done n)) m = refl
+stage-back (ended (conflict n)) m = refl
+stage-back (ended (End.noRoom n)) m = refl
+stage-back (ended (gaveUp n)) m = refl
+stage-back (ended notOurs) m = refl
+stage-back (ended gone) m = refl
+stage-back (ended kept) m = refl
+
+number-listed : (s : Stage) → stageListed (stageNumber s) ≡ true
+unfolding stageNumber stageListed among
+number-listed (beforeA n) = refl
+number-listed (beforeB n) = refl
+number-listed beforeFirst = refl
+number-listed beforeSecond = refl
+number-listed (ended (done n)) = refl
+number-listed (ended (conflict n)) = refl
+number-listed (ended (End.noRoom n)) = refl
+number-listed (ended (gaveUp n)) = refl
+number-listed (ended notOurs) = refl
+number-listed (ended gone) = refl
+number-listed (ended kept) = refl
+
+pub can-back : (s : Stage) (m : ℕ) → canHave (stageNumber s) (stageCount s m) ≡ possible s
+unfolding canHave
+can-back s m = rw (number-listed s, stage-back s m) refl
+
+-- ---- a step keeps the kind
+
+abbrev ofAdd : Stage → Bool
+ofAdd s = isAdd (stageNumber s)
+
+add-after : (n : ℕ) (a : Answer) → ofAdd (after n a) ≡ true
+unfolding after isAdd stageNumber
+add-after n success = refl
+add-after n YXDOMAIN = refl
+add-after n NXDOMAIN = go (eqb n 6)
+  where
+    go : (b : Bool) → ofAdd (cond b (ended (gaveUp n)) (beforeA n)) ≡ true
+    go true = refl
+    go false = refl
+add-after n NXRRSET = refl
+add-after n noRoom = refl
+
+remove-after : (b : Bool) (s t : Stage) → ofAdd s ≡ false → ofAdd t ≡ false → ofAdd (cond b s t) ≡ false
+remove-after true s t h k = h
+remove-after false s t h k = k
+
+kind-step : (a : Arguments) (z : abstract.Zone) (s : Stage) → ofAdd (step a z s .stage) ≡ ofAdd s
+unfolding step afterFirst afterSecond
+kind-step a z (beforeA n) = add-after (suc n) (requestA (a .update) z .answer) ∙ (unfold isAdd stageNumber in refl)
+kind-step a z (beforeB n) = add-after (suc n) (requestB (a .policy) (a .update) z .answer) ∙ (unfold isAdd stageNumber in refl)
+kind-step a z beforeFirst =
+    remove-after (passed (removeAddress (a .update) z .answer)) beforeSecond (ended notOurs) (unfold isAdd stageNumber in refl) (unfold isAdd stageNumber in refl)
+    ∙ (unfold isAdd stageNumber in refl)
+kind-step a z beforeSecond =
+    remove-after (passed (removeName (a .update) z .answer)) (ended gone) (ended kept) (unfold isAdd stageNumber in refl) (unfold isAdd stageNumber in refl)
+    ∙ (unfold isAdd stageNumber in refl)
+kind-step a z (ended e) = refl
+
+-- a listed number's stage has that number
+number-back : (s n : ℕ) → stageListed s ≡ true → stageNumber (stageOf s n) ≡ s
+unfolding stageNumber stageOf stageListed
+number-back zero n h = absurd (true≢false (sym h ∙ (unfold among in refl)))
+number-back (suc zero) n h = refl
+number-back (suc (suc zero)) n h = refl
+number-back (suc (suc (suc zero))) n h = refl
+number-back (suc (suc (suc (suc zero)))) n h = refl
+number-back (suc (suc (suc (suc (suc zero))))) n h = refl
+number-back (suc (suc (suc (suc (suc (suc zero)))))) n h = refl
+number-back (suc (suc (suc (suc (suc (suc (suc zero))))))) n h = absurd (true≢false (sym h ∙ (unfold among in refl)))
+number-back (suc (suc (suc (suc (suc (suc (suc (suc zero)))))))) n h = absurd (true≢false (sym h ∙ (unfold among in refl)))
+number-back (suc (suc (suc (suc (suc (suc (suc (suc (suc zero))))))))) n h = absurd (true≢false (sym h ∙ (unfold among in refl)))
+number-back (suc (suc (suc (suc (suc (suc (suc (suc (suc (suc zero)))))))))) n h = absurd (true≢false (sym h ∙ (unfold among in refl)))
+number-back (suc (suc (suc (suc (suc (suc (suc (suc (suc (suc (suc zero))))))))))) n h = refl
+number-back (suc (suc (suc (suc (suc (suc (suc (suc (suc (suc (suc (suc zero)))))))))))) n h = refl
+number-back (suc (suc (suc (suc (suc (suc (suc (suc (suc (suc (suc (suc (suc zero))))))))))))) n h = refl
+number-back (suc (suc (suc (suc (suc (suc (suc (suc (suc (suc (suc (suc (suc (suc zero)))))))))))))) n h = refl
+number-back (suc (suc (suc (suc (suc (suc (suc (suc (suc (suc (suc (suc (suc (suc (suc zero))))))))))))))) n h = refl
+number-back (suc (suc (suc (suc (suc (suc (suc (suc (suc (suc (suc (suc (suc (suc (suc (suc s)))))))))))))))) n h = absurd (true≢false (sym h ∙ not-listed (suc (suc (suc (suc (suc (suc (suc (suc (suc (suc (suc (suc (suc (suc (suc (suc s)))))))))))))))) (omega arith)))
+
+module _ (z : Zone) (j : Job) (h : numbersListed j ≡ true) where
+  listed-stage : stageListed (j .stage) ≡ true
+  unfolding numbersListed canHave
+  listed-stage =
+      and-left (stageListed (j .stage)) (possible (stageOf (j .stage) (j .count)))
+      (and-right (listed (j .family) (cond (isAdd (j .stage)) (j .policy) 0)) (stageListed (j .stage) && possible (stageOf (j .stage) (j .count))) h)
+
+  pub kind-same : isAdd (stageNumber (stepOf z j .stage)) ≡ isAdd (j .stage)
+  kind-same = kind-step (argumentsOf j) (zoneOf z) (stageOf (j .stage) (j .count)) ∙ ap isAdd (number-back (j .stage) (j .count) listed-stage)
+
+  arguments-same : argumentsOf (atStage j (stepOf z j .stage)) ≡ argumentsOf j
+  unfolding argumentsOf atStage
+  arguments-same = ap (λ (b : Bool). record { kind = cond b add remove; update = updateOf (j .name) (j .dhcid) (j .family) (j .address); policy = policyOf (j .policy) }) kind-same
+
+  pub listed-after : possible (stepOf z j .stage) ≡ true → numbersListed (atStage j (stepOf z j .stage)) ≡ true
+  unfolding numbersListed atStage
+  listed-after p =
+      let l : listed (j .family) (cond (isAdd (j .stage)) (j .policy) 0) ≡ true =
+      and-left (listed (j .family) (cond (isAdd (j .stage)) (j .policy) 0)) (canHave (j .stage) (j .count)) h in
+      rw (kind-same, l, can-back (stepOf z j .stage) (j .count)) p
+
+  pub possible-before : possible (jobOf j .stage) ≡ true
+  unfolding numbersListed canHave jobOf
+  possible-before =
+      and-right (stageListed (j .stage)) (possible (stageOf (j .stage) (j .count)))
+      (and-right (listed (j .family) (cond (isAdd (j .stage)) (j .policy) 0)) (stageListed (j .stage) && possible (stageOf (j .stage) (j .count))) h)
+
+-- ---- a step that is not refused
+
+pub listed-of : (z : Zone) (j : Job) → stepRefusal z j ≡ 0 → numbersListed j ≡ true
+unfolding stepRefusal
+listed-of z j e = go (formed z) (numbersListed j) (isFull (nameOf (j .name))) e
+  where
+    go : (a b c : Bool) → _≡_ {A = ℕ} (cond a (cond b (cond c 0 11) 18) 17) 0 → b ≡ true
+    go a true c q = refl
+    go true false c q = absurd (omega arith)
+    go false false c q = absurd (omega arith)
+
+pub full-of : (z : Zone) (j : Job) → stepRefusal z j ≡ 0 → isFull (nameOf (j .name)) ≡ true
+unfolding stepRefusal
+full-of z j e = go (formed z) (numbersListed j) (isFull (nameOf (j .name))) e
+  where
+    go : (a b c : Bool) → _≡_ {A = ℕ} (cond a (cond b (cond c 0 11) 18) 17) 0 → c ≡ true
+    go a b true q = refl
+    go true true false q = absurd (omega arith)
+    go true false false q = absurd (omega arith)
+    go false b false q = absurd (omega arith)
+
+pub unrefused : (z : Zone) (j : Job) → formed z ≡ true → numbersListed j ≡ true → isFull (nameOf (j .name)) ≡ true → stepRefusal z j ≡ 0
+unfolding stepRefusal
+unrefused z j f n l = rw (f, n, l) refl
+
+module _ (z : Zone) (j : Job) (r : Stepped) (p : StepPromise z j r) (e : r .refusal ≡ 0) where
+  none : stepRefusal z j ≡ 0
+  none = sym (p .refusal-is) ∙ e
+
+  pub zone-after : zoneOf (r .zone) ≡ step (jobOf j .arguments) (zoneOf z) (jobOf j .stage) .zone
+  unfolding jobOf
+  zone-after = p .zone-is none
+
+  pub job-after : jobOf (r .job) ≡ record { arguments = jobOf j .arguments; stage = step (jobOf j .arguments) (zoneOf z) (jobOf j .stage) .stage }
+  unfolding jobOf
+  job-after =
+      ap (λ (k : Job). jobOf k) (p .job-is none)
+      ∙ (λ i. record { arguments = arguments-same z j (listed-of z j none) i; stage = back i })
+    where
+      back : stageOf (atStage j (stepOf z j .stage) .stage) (atStage j (stepOf z j .stage) .count) ≡ stepOf z j .stage
+      back = unfold atStage in stage-back (stepOf z j .stage) (j .count)
+
+-- ---- a new job that is not refused
+
+new-listed : (n : Octets) (family policy : ℕ) → newRefusal n family policy ≡ 0 → listed family policy ≡ true
+unfolding newRefusal
+new-listed n family policy e = go (listed family policy) (isFull n) e
+  where
+    go : (a b : Bool) → _≡_ {A = ℕ} (cond a (cond b 0 11) 18) 0 → a ≡ true
+    go true b q = refl
+    go false b q = absurd (omega arith)
+
+new-full : (n : Octets) (family policy : ℕ) → newRefusal n family policy ≡ 0 → isFull n ≡ true
+unfolding newRefusal
+new-full n family policy e = go (listed family policy) (isFull n) e
+  where
+    go : (a b : Bool) → _≡_ {A = ℕ} (cond a (cond b 0 11) 18) 0 → b ≡ true
+    go a true q = refl
+    go true false q = absurd (omega arith)
+    go false false q = absurd (omega arith)
+
+module _ (refusal : ℕ) (f : Job) (r : NewJob) (p : r ≡ newJob refusal f) (e : r .refusal ≡ 0) where
+  pub new-none : refusal ≡ 0
+  unfolding newJob
+  new-none = sym (ap (λ (u : NewJob). u .refusal) p) ∙ e
+
+  pub new-is : r .job ≡ f
+  unfolding newJob
+  new-is = ap (λ (u : NewJob). u .job) p ∙ ap (λ (b : Bool). cond b f blank) (eq-eqb refusal 0 new-none)
+
+module _ (n : Name) (d : Dhcid) (family : ℕ) (a : Address) where
+  pub add-is : (policy : ℕ) → jobOf (freshAdd n d family a policy) ≡ record {
+    arguments = record { kind = add; update = updateOf n d family a; policy = policyOf policy };
+    stage = beforeA 0;
+  }
+  unfolding jobOf argumentsOf freshAdd stageOf isAdd
+  add-is policy = refl
+
+  pub remove-is : jobOf (freshRemove n d family a) ≡ record {
+    arguments = record { kind = remove; update = updateOf n d family a; policy = keepOthers };
+    stage = beforeFirst;
+  }
+  unfolding jobOf argumentsOf freshRemove stageOf isAdd policyOf
+  remove-is = refl
+
+  pub add-listed : (policy : ℕ) → newRefusal (nameOf n) family policy ≡ 0 → numbersListed (freshAdd n d family a policy) ≡ true
+  unfolding numbersListed freshAdd isAdd canHave stageListed stageOf possible among
+  add-listed policy e = rw (new-listed (nameOf n) family policy e) refl
+
+  pub add-full : (policy : ℕ) → newRefusal (nameOf n) family policy ≡ 0 → isFull (nameOf (freshAdd n d family a policy .name)) ≡ true
+  unfolding freshAdd
+  add-full policy e = new-full (nameOf n) family policy e
+
+  pub remove-listed : newRefusal (nameOf n) family 0 ≡ 0 → numbersListed (freshRemove n d family a) ≡ true
+  unfolding numbersListed freshRemove isAdd canHave stageListed stageOf possible among
+  remove-listed e = rw (new-listed (nameOf n) family 0 e) refl
+
+  pub remove-full : newRefusal (nameOf n) family 0 ≡ 0 → isFull (nameOf (freshRemove n d family a .name)) ≡ true
+  unfolding freshRemove
+  remove-full e = new-full (nameOf n) family 0 e

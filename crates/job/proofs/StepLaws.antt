@@ -1,0 +1,206 @@
+-- What a request's promise, the way on from its answer and the job's numbers make of a step. Assumes nothing.
+use mathlib.Core.Path.{_≡_, refl, sym, _∙_, ap, subst}
+use mathlib.Core.Bool.{Bool, true, false, cond, _&&_, and-true}
+use mathlib.Core.List.{List, [], _∷_}
+use Prim.Native.Nat.{ℕ, zero, suc, _≤_, _<_}
+use native.Mathlib.Omega.{arith}
+use lib.Dec.{eqb, leb}
+use borrow.Author.Tests.{eq-eqb, ne-eqb, lt-leb}
+use Rattle.hosts.proofs.CountLaws.{true≢false, bool-case, and-left, and-right}
+use Rattle.zone.specs.declared.survey.Zone.{Zone}
+use Rattle.zone.specs.declared.request.Answered.{Answered}
+use Rattle.zone.specs.Zone.{Answer, Outcome, requestA, requestB, removeAddress, removeName}
+use Rattle.zone.specs.Meaning.{nameOf, isFull, listed, policyOf, updateOf, zoneOf, formed}
+use Rattle.zone.specs.Promise.{refusalOf, numberOf, Promised}
+use Rattle.job.specs.declared.job.Job.{Job}
+use Rattle.job.specs.declared.step.Stepped.{Stepped}
+use Rattle.job.specs.Jobs.{Stage, ended, End, done, conflict, noRoom, gaveUp, notOurs, gone, kept, State, goesOn, among, after, afterFirst, afterSecond, step}
+use Rattle.job.specs.Meaning.{stageNumber, stageCount, stageOf, canHave, isAdd, argumentsOf, atStage, numbersListed}
+use Rattle.job.specs.Promise.{stepRefusal, stepOf, StepPromise}
+use Rattle.job.specs.Inner.{Leads, Carried, Idle}
+use Rattle.job.proofs.StageLaws.{each-among, can-a, can-b, can-nothing, can-low, can-remove}
+
+-- ---- the numbers of a job
+
+-- policy 0 is listed beside every family that is
+listed-zero : (f p : ℕ) → listed f p ≡ true → listed f 0 ≡ true
+unfolding listed
+listed-zero f p h = and-true (cond (eqb f 4) true (eqb f 6)) ∙ and-left (cond (eqb f 4) true (eqb f 6)) (leb p 2) h
+
+module _ (j : Job) (h : numbersListed j ≡ true) where
+  pub numbers-zero : listed (j .family) 0 ≡ true
+  unfolding numbersListed
+  numbers-zero =
+      listed-zero (j .family) (cond (isAdd (j .stage)) (j .policy) 0)
+      (and-left (listed (j .family) (cond (isAdd (j .stage)) (j .policy) 0)) (canHave (j .stage) (j .count)) h)
+
+  numbers-can : canHave (j .stage) (j .count) ≡ true
+  unfolding numbersListed
+  numbers-can = and-right (listed (j .family) (cond (isAdd (j .stage)) (j .policy) 0)) (canHave (j .stage) (j .count)) h
+
+  can-at : (s : ℕ) → j .stage ≡ s → canHave s (j .count) ≡ true
+  can-at s e = ap (λ (t : ℕ). canHave t (j .count)) (sym e) ∙ numbers-can
+
+  pub numbers-policy : j .stage ≡ 2 → listed (j .family) (j .policy) ≡ true
+  unfolding numbersListed isAdd
+  numbers-policy e =
+      ap (λ (s : ℕ). listed (j .family) (cond (leb s 6) (j .policy) 0)) (sym e)
+      ∙ and-left (listed (j .family) (cond (leb (j .stage) 6) (j .policy) 0)) (canHave (j .stage) (j .count)) h
+
+  pub count-a : j .stage ≡ 1 → j .count < 6
+  count-a e = each-among (λ n. n < 6) (j .count) (0 ∷ 2 ∷ 4 ∷ []) (omega arith, (omega arith, (omega arith, tt))) (sym (can-a (j .count)) ∙ can-at 1 e)
+
+  pub count-b : j .stage ≡ 2 → j .count < 6
+  count-b e = each-among (λ n. n < 6) (j .count) (1 ∷ 3 ∷ 5 ∷ []) (omega arith, (omega arith, (omega arith, tt))) (sym (can-b (j .count)) ∙ can-at 2 e)
+
+-- ---- the step that the rules make at each stage
+
+module _ (z : Zone) (j : Job) where
+  at-stage : (s : ℕ) → j .stage ≡ s → stepOf z j ≡ step (argumentsOf j) (zoneOf z) (stageOf s (j .count))
+  at-stage s e = ap (λ (t : ℕ). step (argumentsOf j) (zoneOf z) (stageOf t (j .count))) e
+
+  pub step-at-a : j .stage ≡ 1 → stepOf z j ≡ goesOn (requestA (updateOf (j .name) (j .dhcid) (j .family) (j .address)) (zoneOf z)) (after (suc (j .count)))
+  step-at-a e = at-stage 1 e ∙ (unfold argumentsOf stageOf step in refl)
+
+  pub step-at-b : j .stage ≡ 2
+      → stepOf z j ≡ goesOn (requestB (policyOf (j .policy)) (updateOf (j .name) (j .dhcid) (j .family) (j .address)) (zoneOf z)) (after (suc (j .count)))
+  step-at-b e = at-stage 2 e ∙ (unfold argumentsOf stageOf step in refl)
+
+  pub step-at-first : j .stage ≡ 11 → stepOf z j ≡ goesOn (removeAddress (updateOf (j .name) (j .dhcid) (j .family) (j .address)) (zoneOf z)) afterFirst
+  step-at-first e = at-stage 11 e ∙ (unfold argumentsOf stageOf step in refl)
+
+  pub step-at-second : j .stage ≡ 12 → stepOf z j ≡ goesOn (removeName (updateOf (j .name) (j .dhcid) (j .family) (j .address)) (zoneOf z)) afterSecond
+  step-at-second e = at-stage 12 e ∙ (unfold argumentsOf stageOf step in refl)
+
+  -- ---- one refusal for the request and for the step
+
+  refusal-same : (p : ℕ) → numbersListed j ≡ true → listed (j .family) p ≡ true → refusalOf z (nameOf (j .name)) (j .family) p ≡ stepRefusal z j
+  unfolding refusalOf stepRefusal
+  refusal-same p h l = rw (h, l) refl
+
+  -- ---- a stage that sends a request
+
+  pub step-kept : (p : ℕ) (o : Outcome) (rule : Answer → Stage) (sent : Answered) (next : Job) (r : Stepped)
+      → numbersListed j ≡ true → listed (j .family) p ≡ true → stepOf z j ≡ goesOn o rule
+      → Promised z (refusalOf z (nameOf (j .name)) (j .family) p) o sent → Leads j (sent .answer) rule next → Carried sent j next r → StepPromise z j r
+  step-kept p o rule sent next r h l s m leads c = record {
+    refusal-is = c .refusal-is ∙ k .refusal-is;
+    zone-kept = λ n. c .zone-is ∙ k .kept n;
+    job-kept = λ n. c .job-is ∙ ap (λ (b : Bool). cond b next j) (ne-eqb (sent .refusal) 0 (λ e. n (sym (k .refusal-is) ∙ e)));
+    zone-is = λ e. ap zoneOf (c .zone-is) ∙ k .done e ∙ ap (λ (w : State). w .zone) (sym s);
+    formed-again = λ e. ap formed (c .zone-is) ∙ k .formed-again e;
+    job-is = λ e. c .job-is ∙ ap (λ (b : Bool). cond b next j) (eq-eqb (sent .refusal) 0 (k .refusal-is ∙ e))
+        ∙ leads (o .answer) (k .answer-is ∙ ap (λ (b : Bool). cond b (numberOf (o .answer)) 0) (eq-eqb (stepRefusal z j) 0 e))
+        ∙ ap (λ (w : State). atStage j (w .stage)) (sym s);
+  }
+    where
+      k : Promised z (stepRefusal z j) o sent
+      k = subst (λ (n : ℕ). Promised z n o sent) (refusal-same p h l) m
+
+  -- ---- numbers that are not listed
+
+  module _ (p : ℕ) where
+    pub form-fails : refusalOf z (nameOf (j .name)) (j .family) p ≡ 17 → formed z ≡ false
+    unfolding refusalOf
+    form-fails e = go (formed z) (listed (j .family) p) (isFull (nameOf (j .name))) e
+      where
+        go : (a b c : Bool) → _≡_ {A = ℕ} (cond a (cond b (cond c 0 11) 18) 17) 17 → a ≡ false
+        go true true true q = absurd (omega arith)
+        go true true false q = absurd (omega arith)
+        go true false c q = absurd (omega arith)
+        go false b c q = refl
+
+    pub form-holds : (refusalOf z (nameOf (j .name)) (j .family) p ≡ 17 → ⊥) → formed z ≡ true
+    unfolding refusalOf
+    form-holds n = go (formed z) n
+      where
+        go : (a : Bool) → (_≡_ {A = ℕ} (cond a (cond (listed (j .family) p) (cond (isFull (nameOf (j .name))) 0 11) 18) 17) 17 → ⊥) → a ≡ true
+        go true q = refl
+        go false q = absurd (q refl)
+
+  pub refused-form : formed z ≡ false → StepPromise z j (record { refusal = 17; zone = z; job = j })
+  refused-form f =
+      let e : 17 ≡ stepRefusal z j = unfold stepRefusal in rw f refl in
+      record {
+        refusal-is = e;
+        zone-kept = λ n. refl;
+        job-kept = λ n. refl;
+        zone-is = λ q. absurd (omega arith);
+        formed-again = λ q. absurd (omega arith);
+        job-is = λ q. absurd (omega arith);
+      }
+
+  pub refused-numbers : formed z ≡ true → numbersListed j ≡ false → StepPromise z j (record { refusal = 18; zone = z; job = j })
+  refused-numbers f h =
+      let e : 18 ≡ stepRefusal z j = unfold stepRefusal in rw (f, h) refl in
+      record {
+        refusal-is = e;
+        zone-kept = λ n. refl;
+        job-kept = λ n. refl;
+        zone-is = λ q. absurd (omega arith);
+        formed-again = λ q. absurd (omega arith);
+        job-is = λ q. absurd (omega arith);
+      }
+
+-- ---- a job that has ended
+
+record Over (s n : ℕ) : Type 0 where
+  end : End
+  is : stageOf s n ≡ ended end
+  number : stageNumber (ended end) ≡ s
+  count : stageCount (ended end) n ≡ n
+
+over : (s n : ℕ) → canHave s n ≡ true → Idle s → Over s n
+unfolding stageOf stageNumber stageCount
+over zero n c i = absurd (true≢false (sym c ∙ can-nothing n))
+over (suc zero) n c i = absurd (i .not-a refl)
+over (suc (suc zero)) n c i = absurd (i .not-b refl)
+over (suc (suc (suc zero))) n c i = record { end = done n; is = refl; number = refl; count = refl }
+over (suc (suc (suc (suc zero)))) n c i = record { end = conflict n; is = refl; number = refl; count = refl }
+over (suc (suc (suc (suc (suc zero))))) n c i = record { end = noRoom n; is = refl; number = refl; count = refl }
+over (suc (suc (suc (suc (suc (suc zero)))))) n c i = record { end = gaveUp n; is = refl; number = refl; count = refl }
+over (suc (suc (suc (suc (suc (suc (suc zero))))))) n c i = absurd (true≢false (sym c ∙ can-low 7 n (omega arith) (omega arith)))
+over (suc (suc (suc (suc (suc (suc (suc (suc zero)))))))) n c i = absurd (true≢false (sym c ∙ can-low 8 n (omega arith) (omega arith)))
+over (suc (suc (suc (suc (suc (suc (suc (suc (suc zero))))))))) n c i = absurd (true≢false (sym c ∙ can-low 9 n (omega arith) (omega arith)))
+over (suc (suc (suc (suc (suc (suc (suc (suc (suc (suc zero)))))))))) n c i = absurd (true≢false (sym c ∙ can-low 10 n (omega arith) (omega arith)))
+over (suc (suc (suc (suc (suc (suc (suc (suc (suc (suc (suc zero))))))))))) n c i = absurd (i .not-first refl)
+over (suc (suc (suc (suc (suc (suc (suc (suc (suc (suc (suc (suc zero)))))))))))) n c i = absurd (i .not-second refl)
+over (suc (suc (suc (suc (suc (suc (suc (suc (suc (suc (suc (suc (suc zero))))))))))))) n c i = record { end = notOurs; is = refl; number = refl; count = refl }
+over (suc (suc (suc (suc (suc (suc (suc (suc (suc (suc (suc (suc (suc (suc zero)))))))))))))) n c i = record { end = gone; is = refl; number = refl; count = refl }
+over (suc (suc (suc (suc (suc (suc (suc (suc (suc (suc (suc (suc (suc (suc (suc zero))))))))))))))) n c i = record { end = kept; is = refl; number = refl; count = refl }
+over (suc (suc (suc (suc (suc (suc (suc (suc (suc (suc (suc (suc (suc (suc (suc (suc s)))))))))))))))) n c i =
+    absurd (true≢false (sym c ∙ sym (can-remove (suc (suc (suc (suc (suc (suc (suc (suc (suc (suc (suc (suc (suc (suc (suc (suc s)))))))))))))))) n (omega arith)) ∙ lt-leb (suc (suc (suc (suc (suc (suc (suc (suc (suc (suc (suc (suc (suc (suc (suc (suc s)))))))))))))))) 15 (omega arith)))
+
+pub step-idle : (z : Zone) (j : Job) (refusal : ℕ) → numbersListed j ≡ true → Idle (j .stage) → refusal ≡ refusalOf z (nameOf (j .name)) (j .family) 0
+    → StepPromise z j (record { refusal = refusal; zone = z; job = j })
+step-idle z j refusal h i e = record {
+  refusal-is = e ∙ same;
+  zone-kept = λ n. refl;
+  job-kept = λ n. refl;
+  zone-is = λ q. sym (ap (λ (w : State). w .zone) stays);
+  formed-again = λ q. formed-is q;
+  job-is = λ q. same-job ∙ ap (λ (w : State). atStage j (w .stage)) (sym stays);
+}
+  where
+    same : refusalOf z (nameOf (j .name)) (j .family) 0 ≡ stepRefusal z j
+    same = refusal-same z j 0 h (numbers-zero j h)
+
+    o : Over (j .stage) (j .count)
+    o = over (j .stage) (j .count) (numbers-can j h) i
+
+    stays : stepOf z j ≡ record { zone = zoneOf z; stage = ended (o .end) }
+    stays = ap (step (argumentsOf j) (zoneOf z)) (o .is) ∙ (unfold step in refl)
+
+    formed-is : stepRefusal z j ≡ 0 → formed z ≡ true
+    formed-is q = form-holds z j 0 (λ p. let t : _≡_ {A = ℕ} 17 0 = sym p ∙ same ∙ q in omega arith)
+
+    same-job : j ≡ atStage j (ended (o .end))
+    same-job = unfold atStage in λ k. record {
+      stage = sym (o .number) k;
+      count = sym (o .count) k;
+      family = j .family;
+      policy = j .policy;
+      name = j .name;
+      dhcid = j .dhcid;
+      address = j .address;
+    }

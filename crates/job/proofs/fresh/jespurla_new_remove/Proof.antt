@@ -1,0 +1,17 @@
+use Rattle.job.specs.Meaning.{freshRemove}
+use borrow.Author.Needs.{needs}
+use Rattle.job.proofs.fresh.jespurla_new_remove.Statement.{statement}
+use Rattle.job.proofs.fresh.jespurla_new_remove.Tie as tie
+
+refusal-requires : tie.Need-refusal-requires
+refusal-requires c κs = search needs
+
+unless-requires : tie.Need-unless-requires
+unless-requires c κs = search needs
+
+returns : tie.Need-returns
+unfolding freshRemove
+returns c = rw (c .unless .ensures, c .before .refusal .ensures)
+
+pub jespurla-new-remove-spec : {M : Type 1} → statement M
+jespurla-new-remove-spec = tie.close (tie.spec refusal-requires unless-requires returns)

@@ -1,0 +1,209 @@
+use mathlib.Core.Path.{_≡_, refl, sym, ap, subst}
+use mathlib.Core.Bool.{Bool, true, false, cond, _||_}
+use mathlib.Core.List.{[], _∷_}
+use mathlib.Core.Option.{none, some}
+use Prim.Native.Nat.{ℕ, zero, suc, _≤_}
+use native.Mathlib.Omega.{arith}
+use lib.ListN.{getElem?}
+use Rattle.octets.specs.Compare.{sameOctets}
+use Rattle.dname.specs.Name.{key}
+use Rattle.hosts.specs.Count.{Octets, member, distinct, Counts}
+use Rattle.hosts.specs.Addresses.{Family, four, six, Addresses, nothing, mark}
+use Rattle.hosts.proofs.CountLaws.{counts-nothing, counts-list}
+use Rattle.zone.specs.Zone.{Host, Zone, there, GoodHost, Form, with, put, Update, keepOthers, heldBy, empty, address, requestA, requestB, removeAddress, removeName}
+use Rattle.job.specs.Jobs.{add, remove, Arguments, End, conflict, gone, ended, Job, fresh, after, afterFirst, afterSecond, step, Sends, has-ended, sends}
+use Rattle.serial.specs.Demand.{Calls, Promises, no-job, one-more, start, stepped, verdict, stands, times, nobody, next, Explains, Story, HeldHaveAddress, Serializable}
+use Rattle.zone.proofs.ZoneLaws.{some≢none}
+use Rattle.serial.proofs.Demand.{stronger, demand3}
+
+pub record Result : Type 0 where
+  pub refusal : ℕ
+  pub zone : Zone
+  pub job : Job
+
+abbrev pub stepOf : Zone → Job → Result
+stepOf z k = record {
+  refusal = 0;
+  zone = step (k .arguments) z (k .stage) .zone;
+  job = record { arguments = k .arguments; stage = step (k .arguments) z (k .stage) .stage };
+}
+
+unfoldable pub byRule : Calls
+byRule = record {
+  Z = Zone;
+  J = Job;
+  R = Result;
+  zoneOf = λ z. z;
+  jobOf = λ k. k;
+  refusal = λ (r : Result). r .refusal;
+  zone = λ (r : Result). r .zone;
+  job = λ (r : Result). r .job;
+  Formed = Form;
+  New = λ j k. k ≡ record { arguments = j; stage = fresh j };
+  Step = λ z k r. r ≡ stepOf z k;
+}
+
+pub by-rule : Promises byRule
+unfolding byRule
+by-rule = record {
+  formed = λ z g. g;
+  new = λ j k e. e;
+  zone-after = λ z k r e q. ap (λ (u : Result). u .zone) e;
+  job-after = λ z k r e q. ap (λ (u : Result). u .job) e;
+}
+
+-- ---- X holds pipe, with one address
+
+unfoldable pub pipe : Octets
+pipe = 4 ∷ 112 ∷ 105 ∷ 112 ∷ 101 ∷ 0 ∷ []
+
+abbrev pub address1 : Octets
+address1 = 10 ∷ 0 ∷ 0 ∷ 1 ∷ []
+
+abbrev pub xPipe : Update
+xPipe = record { name = pipe; dhcid = 1 ∷ []; family = four; address = address1 }
+
+unfoldable pub xRemoves : Arguments
+xRemoves = record { kind = remove; update = xPipe; policy = keepOthers }
+
+unfoldable pub xAdds : Arguments
+xAdds = record { kind = add; update = xPipe; policy = keepOthers }
+
+unfoldable pub yAdds : Arguments
+yAdds = record { kind = add; update = record { name = pipe; dhcid = 2 ∷ []; family = four; address = 10 ∷ 0 ∷ 0 ∷ 2 ∷ [] }; policy = keepOthers }
+
+unfoldable pub oneAddress : Addresses
+oneAddress = record { count = 1; has = λ a. member a (address1 ∷ []) }
+
+unfoldable pub xHost : Addresses → Host
+xHost s = record { owner = some (1 ∷ []); addresses = λ f. elim f [ four ↦ s | six ↦ nothing ] }
+
+-- the zone with these addresses of X at pipe, and no other name
+unfoldable pub heldByX : Addresses → Zone
+heldByX s = record { size = 1; at = λ k. cond (sameOctets pipe k) (some (xHost s)) none }
+
+module _ (s : Addresses) (few : s .count ≤ 4) (counted : Counts (s .count) (s .has)) where
+  good-x : GoodHost (xHost s)
+  unfolding xHost
+  good-x = record { four-a-family = four-each; counted = each }
+    where
+      four-each : (f : Family) → xHost s .addresses f .count ≤ 4
+      four-each four = few
+      four-each six = omega arith
+
+      each : (f : Family) → Counts (xHost s .addresses f .count) (xHost s .addresses f .has)
+      each four = counted
+      each six = counts-nothing
+
+  pub form-x : Form (heldByX s)
+  unfolding heldByX member distinct
+  form-x = record {
+    few = omega arith;
+    names = record { list = pipe ∷ []; once = refl; number = refl; exactly = λ k. on (sameOctets pipe k) };
+    hosts = λ k h e. host (sameOctets pipe k) h e;
+  }
+    where
+      on : (b : Bool) → there (cond b (some (xHost s)) none) ≡ (b || false)
+      on true = refl
+      on false = refl
+
+      host : (b : Bool) (h : Host) → cond b (some (xHost s)) none ≡ some h → GoodHost h
+      host true h e = let q : xHost s ≡ h = cc in subst GoodHost q good-x
+      host false h e = absurd (some≢none (sym e))
+
+pub form-one : Form (heldByX oneAddress)
+form-one = form-x oneAddress (unfold oneAddress in omega arith) (unfold oneAddress in counts-list (address1 ∷ []) (unfold distinct member in refl))
+
+form-none : Form (heldByX nothing)
+form-none = form-x nothing (omega arith) counts-nothing
+
+abbrev pub newJob : Arguments → Job
+newJob j = record { arguments = j; stage = fresh j }
+
+-- ---- two jobs, the second's two steps between those of the first
+
+module _ (z : Zone) (a b : Arguments) where
+  abbrev pub r₁ : Result
+  r₁ = stepOf z (newJob a)
+
+  abbrev pub r₂ : Result
+  r₂ = stepOf (r₁ .zone) (newJob b)
+
+  abbrev pub r₃ : Result
+  r₃ = stepOf (r₂ .zone) (r₂ .job)
+
+  abbrev pub r₄ : Result
+  r₄ = stepOf (r₃ .zone) (r₁ .job)
+
+  pub between : Form z → (d e : End) → r₄ .job .stage ≡ ended d → r₃ .job .stage ≡ ended e → Story byRule
+  unfolding byRule
+  between g d e p q = record {
+    arguments = a ∷ b ∷ [];
+    first-zone = z;
+    last-zone = r₄ .zone;
+    first-jobs = newJob a ∷ newJob b ∷ [];
+    last-jobs = r₄ .job ∷ r₃ .job ∷ [];
+    ends = d ∷ e ∷ [];
+    formed = g;
+    fresh-jobs = one-more refl (one-more refl no-job);
+    steps = stepped (stepped (stepped (stepped start 0 (newJob a) r₁ refl refl refl) 1 (newJob b) r₂ refl refl refl) 1 (r₂ .job) r₃ refl refl refl) 0 (r₁ .job) r₄ refl refl refl;
+    all-ended = rw (p, q) refl;
+  }
+
+-- P12: X removes its only address, Y adds in between. Y ends in conflict, and the name is gone.
+abbrev z₀ : Zone
+z₀ = heldByX oneAddress
+
+p12-ends : (r₄ z₀ xRemoves yAdds .job .stage ≡ ended gone) × (r₃ z₀ xRemoves yAdds .job .stage ≡ ended (conflict 2))
+unfolding heldByX xHost oneAddress xRemoves yAdds pipe step fresh requestA requestB removeAddress removeName after afterFirst afterSecond heldBy sameOctets key address with mark put empty member
+p12-ends = (refl, refl)
+
+p12-gone : r₄ z₀ xRemoves yAdds .zone .at (key pipe) ≡ none
+unfolding heldByX xHost oneAddress xRemoves yAdds pipe step fresh requestA requestB removeAddress removeName after afterFirst heldBy sameOctets key address with mark put empty member
+p12-gone = refl
+
+pub p12 : Story byRule
+p12 = between z₀ xRemoves yAdds form-one gone (conflict 2) (p12-ends .0) (p12-ends .1)
+
+-- Demand 3 speaks of it.
+p12-held : HeldHaveAddress z₀
+unfolding heldByX
+p12-held k h d e o = go (sameOctets pipe k) e
+  where
+    go : (b : Bool) → cond b (some (xHost oneAddress)) none ≡ some h → empty h ≡ false
+    go true q = let r : xHost oneAddress ≡ h = cc in rw (sym r) (unfold xHost oneAddress empty in refl)
+    go false q = absurd (some≢none (sym q))
+
+pub p12-serial : Serializable byRule p12
+unfolding p12 between byRule
+p12-serial = demand3 byRule by-rule p12 p12-held
+
+-- As Y first and X after: that order explains it.
+p12-order : Explains (xRemoves ∷ yAdds ∷ []) (gone ∷ conflict 2 ∷ []) z₀ (r₄ z₀ xRemoves yAdds .zone) (1 ∷ 0 ∷ [])
+unfolding times
+p12-order = record { each = each; in-turn = next 1 yAdds (conflict 2) (conflict 2) refl refl y-conflict refl (next 0 xRemoves gone gone refl refl x-gone refl nobody) }
+  where
+    each : (i : ℕ) (e : End) → getElem? (gone ∷ conflict 2 ∷ []) i ≡ some e → times i (1 ∷ 0 ∷ []) ≡ stands (verdict e)
+    each zero e p = let q : gone ≡ e = cc in ap (λ (u : End). stands (verdict u)) q
+    each (suc zero) e p = let q : conflict 2 ≡ e = cc in ap (λ (u : End). stands (verdict u)) q
+    each (suc (suc i)) e p = absurd (some≢none (sym p))
+
+    y-conflict : Sends yAdds z₀ (fresh yAdds) z₀ (conflict 2)
+    y-conflict = unfold heldByX xHost oneAddress yAdds pipe step fresh requestA requestB after heldBy sameOctets key in sends (sends has-ended)
+
+    x-gone : Sends xRemoves z₀ (fresh xRemoves) (r₄ z₀ xRemoves yAdds .zone) gone
+    x-gone = unfold heldByX xHost oneAddress xRemoves yAdds pipe step fresh requestA requestB removeAddress removeName after afterFirst afterSecond heldBy sameOctets key address with mark put empty member in sends (sends has-ended)
+
+-- The same from a zone that demand 3 does not ask about: X holds the name, with no address.
+abbrev bare₀ : Zone
+bare₀ = heldByX nothing
+
+bare-ends : (r₄ bare₀ xRemoves yAdds .job .stage ≡ ended gone) × (r₃ bare₀ xRemoves yAdds .job .stage ≡ ended (conflict 2))
+unfolding heldByX xHost xRemoves yAdds pipe step fresh requestA requestB removeAddress removeName after afterFirst afterSecond heldBy sameOctets key address with mark put empty member
+bare-ends = (refl, refl)
+
+pub from-bare : Story byRule
+from-bare = between bare₀ xRemoves yAdds form-none gone (conflict 2) (bare-ends .0) (bare-ends .1)
+
+pub from-bare-serial : Serializable byRule from-bare
+from-bare-serial = stronger byRule by-rule from-bare .0

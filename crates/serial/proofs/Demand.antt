@@ -1,0 +1,448 @@
+-- ---- an add's count
+use mathlib.Core.Path.{_≡_, refl, sym, _∙_, ap, subst, fun-ext}
+use mathlib.Core.Bool.{Bool, true, false, cond, _&&_}
+use mathlib.Core.List.{List, [], _∷_, map}
+use mathlib.Core.Logic.{_⊎_, inl, inr}
+use mathlib.Core.Option.{Option, none, some}
+use Prim.Native.Nat.{ℕ, zero, suc, _+_, _<_}
+use native.Mathlib.Decide.{ℕ-discrete}
+use native.Mathlib.Omega.{arith}
+use lib.Dec.{eqb}
+use lib.ListN.{getElem?, set}
+use borrow.Author.Tests.{eq-eqb, ne-eqb}
+use Rattle.dname.specs.Name.{key}
+use Rattle.hosts.specs.Count.{Octets}
+use Rattle.hosts.specs.Addresses.{four}
+use Rattle.zone.specs.Zone.{Zone, Form, keepOthers, Answer, success, YXDOMAIN, NXDOMAIN, NXRRSET, address, requestA, fits, requestB, removeAddress, removeName}
+use Rattle.job.specs.Jobs.{Kind, add, remove, Arguments, End, gaveUp, notOurs, gone, kept, Stage, beforeA, beforeB, beforeFirst, beforeSecond, ended, Job, firstStage, fresh, after, passed, afterFirst, afterSecond, step, sent}
+use Rattle.serial.specs.Demand.{Calls, Promises, going, Fresh, no-job, one-more, Steps, start, stepped, refused, ownSteps, ChangedNothing, Moment, EndedFirst, verdict, stands, times, In, Before, InTurn, nobody, next, Explains, Story, Demand3, Stronger}
+use Rattle.zone.proofs.ZoneLaws.{some≢none, option-case, zone-eq, put-off}
+use Rattle.serial.proofs.ListLaws.{set-same, set-other}
+use Rattle.serial.proofs.RequestLaws.{form-step, whole, whole-sends, outcome, quiet}
+use Rattle.serial.proofs.OrderLaws.{serial, Agree, form-serial, times-in}
+use Rattle.serial.proofs.Placing.{Ended, Fits, stand, stand-same, stand-other, ended≢2, At, Inv, Real, move, shown, emptied}
+
+abbrev pub Sent : Stage → ℕ → Type 0
+Sent (beforeA n) m = n ≡ m
+Sent (beforeB n) m = n ≡ m
+Sent beforeFirst m = 0 ≡ m
+Sent beforeSecond m = 1 ≡ m
+Sent (ended e) m = (n : ℕ) → sent e ≡ some n → n ≡ m
+
+pub some-eq : {n m : ℕ} → _≡_ {A = Option ℕ} (some n) (some m) → m ≡ n
+some-eq e = cc
+
+sent-after : (n : ℕ) (a : Answer) → Sent (after n a) n
+unfolding after
+sent-after n success = λ m e. some-eq e
+sent-after n YXDOMAIN = refl
+sent-after n NXDOMAIN = go (eqb n 6)
+  where
+    go : (t : Bool) → Sent (cond t (ended (gaveUp n)) (beforeA n)) n
+    go true = λ m e. some-eq e
+    go false = refl
+sent-after n NXRRSET = λ m e. some-eq e
+sent-after n Answer.noRoom = λ m e. some-eq e
+
+sent-1 : (a : Answer) → Sent (afterFirst a) 1
+unfolding afterFirst
+sent-1 a = go (passed a)
+  where
+    go : (t : Bool) → Sent (cond t beforeSecond (ended notOurs)) 1
+    go true = refl
+    go false = λ n e. absurd (some≢none (sym e))
+
+sent-2 : (a : Answer) → Sent (afterSecond a) 2
+unfolding afterSecond
+sent-2 a = go (passed a)
+  where
+    go : (t : Bool) → Sent (cond t (ended gone) (ended kept)) 2
+    go true = λ n e. absurd (some≢none (sym e))
+    go false = λ n e. absurd (some≢none (sym e))
+
+sent-step : (j : Arguments) (z : Zone) (s : Stage) (m : ℕ) → Sent s m → Sent (step j z s .stage) (m + cond (going s) 1 0)
+unfolding step
+sent-step j z (beforeA n) m h = let e : suc n ≡ m + 1 = omega arith in subst (Sent (after (suc n) (requestA (j .update) z .answer))) e (sent-after (suc n) (requestA (j .update) z .answer))
+sent-step j z (beforeB n) m h = let e : suc n ≡ m + 1 = omega arith in subst (Sent (after (suc n) (requestB (j .policy) (j .update) z .answer))) e (sent-after (suc n) (requestB (j .policy) (j .update) z .answer))
+sent-step j z beforeFirst m h = let e : 1 ≡ m + 1 = omega arith in subst (Sent (afterFirst (removeAddress (j .update) z .answer))) e (sent-1 (removeAddress (j .update) z .answer))
+sent-step j z beforeSecond m h = let e : 2 ≡ m + 1 = omega arith in subst (Sent (afterSecond (removeName (j .update) z .answer))) e (sent-2 (removeName (j .update) z .answer))
+sent-step j z (ended e) m h = λ n p. let q : n ≡ m = h n p in omega arith
+
+sent-fresh : (k : Kind) → Sent (firstStage k) 0
+sent-fresh add = refl
+sent-fresh remove = refl
+
+none-fresh : (k : Kind) → outcome (firstStage k) ≡ none
+none-fresh add = refl
+none-fresh remove = refl
+
+fits-fresh : (j : Arguments) (k : Kind) → j .kind ≡ k → Fits j (firstStage k)
+fits-fresh j add e = e
+fits-fresh j remove e = e
+
+fresh-none : (j : Arguments) → outcome (fresh j) ≡ none
+unfolding fresh
+fresh-none j = none-fresh (j .kind)
+
+pub fresh-fits : (j : Arguments) → Fits j (fresh j)
+unfolding fresh
+fresh-fits j = fits-fresh j (j .kind) refl
+
+fresh-sent : (j : Arguments) → Sent (fresh j) 0
+unfolding fresh
+fresh-sent j = sent-fresh (j .kind)
+
+abbrev or-else : {A : Type 0} → A → Option A → A
+or-else a none = a
+or-else a (some b) = b
+
+no-one : Arguments
+no-one = record { kind = remove; update = record { name = []; dhcid = []; family = four; address = [] }; policy = keepOthers }
+
+module _ (C : Calls) (js : List Arguments) where
+  J : ℕ → Arguments
+  J i = or-else no-one (getElem? js i)
+
+  J-is : (i : ℕ) (j : Arguments) → getElem? js i ≡ some j → J i ≡ j
+  unfolding J
+  J-is i j e = ap (or-else no-one) e
+
+  -- the stages of the jobs by number; a number of no job has a fresh one
+  abbrev stage-of : ℕ → Option (C .J) → Stage
+  stage-of i none = fresh (J i)
+  stage-of i (some k) = C .jobOf k .stage
+
+  stages : List (C .J) → ℕ → Stage
+  stages ks i = stage-of i (getElem? ks i)
+
+  stage-is : (ks : List (C .J)) (i : ℕ) (k : C .J) → getElem? ks i ≡ some k → stages ks i ≡ C .jobOf k .stage
+  unfolding stages
+  stage-is ks i k e = ap (stage-of i) e
+
+  stage-none : (ks : List (C .J)) (i : ℕ) → getElem? ks i ≡ none → stages ks i ≡ fresh (J i)
+  unfolding stages
+  stage-none ks i e = ap (stage-of i) e
+
+  stages-set : (ks : List (C .J)) (i : ℕ) (a b : C .J) → getElem? ks i ≡ some a → stages (set ks i b) ≡ stand (stages ks) i (C .jobOf b .stage)
+  unfolding stages
+  stages-set ks i a b e = fun-ext (λ x. go x (ℕ-discrete x i))
+    where
+      go : (x : ℕ) → Dec (x ≡ i) → stages (set ks i b) x ≡ stand (stages ks) i (C .jobOf b .stage) x
+      go x (yes p) =
+          subst (λ (u : ℕ). stages (set ks i b) u ≡ stand (stages ks) i (C .jobOf b .stage) u) (sym p)
+          (ap (stage-of i) (set-same ks i a b e) ∙ sym (stand-same (stages ks) i (C .jobOf b .stage)))
+      go x (no q) = ap (stage-of x) (set-other ks i x b q) ∙ sym (stand-other (stages ks) i (C .jobOf b .stage) x q)
+
+  -- each job keeps its arguments
+  abbrev pub Along : List (C .J) → Type 0
+  Along ks = (i : ℕ) (k : C .J) → getElem? ks i ≡ some k → getElem? js i ≡ some (C .jobOf k .arguments)
+
+  along-set : (ks : List (C .J)) (i : ℕ) (a b : C .J) → getElem? ks i ≡ some a → C .jobOf b .arguments ≡ C .jobOf a .arguments → Along ks → Along (set ks i b)
+  along-set ks i a b e p h x k r = go (ℕ-discrete x i)
+    where
+      go : Dec (x ≡ i) → getElem? js x ≡ some (C .jobOf k .arguments)
+      go (no q) = h x k (sym (set-other ks i x b q) ∙ r)
+      go (yes q) =
+          let s : _≡_ {A = Option (C .J)} (some b) (some k) = sym (set-same ks i a b e) ∙ ap (getElem? (set ks i b)) (sym q) ∙ r in
+          let t : b ≡ k = cc in
+          ap (getElem? js) q ∙ h i a e ∙ ap some (sym p ∙ ap (λ (u : C .J). C .jobOf u .arguments) t)
+
+pub record Begins (C : Calls) (js : List Arguments) (ks : List (C .J)) : Type 0 where
+  pub along : Along C js ks
+  pub stage : (i : ℕ) (k : C .J) → getElem? ks i ≡ some k → C .jobOf k .stage ≡ fresh (C .jobOf k .arguments)
+
+pub begins : (C : Calls) → Promises C → (js : List Arguments) (ks : List (C .J)) → Fresh C js ks → Begins C js ks
+begins C P [] [] no-job = record { along = λ i k e. absurd (some≢none (sym e)); stage = λ i k e. absurd (some≢none (sym e)) }
+begins C P (j ∷ js) (k ∷ ks) (one-more m f) = go (begins C P js ks f)
+  where
+    is : C .jobOf k ≡ record { arguments = j; stage = fresh j }
+    is = P .new j k m
+
+    go : Begins C js ks → Begins C (j ∷ js) (k ∷ ks)
+    go b = record { along = along; stage = stage }
+      where
+        along : (i : ℕ) (x : C .J) → getElem? (k ∷ ks) i ≡ some x → getElem? (j ∷ js) i ≡ some (C .jobOf x .arguments)
+        along zero x e = let q : k ≡ x = cc in ap some (sym (ap (λ (u : Job). u .arguments) is) ∙ ap (λ (u : C .J). C .jobOf u .arguments) q)
+        along (suc i) x e = b .along i x e
+
+        stage : (i : ℕ) (x : C .J) → getElem? (k ∷ ks) i ≡ some x → C .jobOf x .stage ≡ fresh (C .jobOf x .arguments)
+        stage zero x e =
+            let q : k ≡ x = cc in
+            subst (λ (u : C .J). C .jobOf u .stage ≡ fresh (C .jobOf u .arguments)) q
+            (ap (λ (u : Job). u .stage) is ∙ ap (λ (u : Job). fresh (u .arguments)) (sym is))
+        stage (suc i) x e = b .stage i x e
+
+module _ (C : Calls) (P : Promises C) (js : List Arguments) (z₀ : C .Z) (ks₀ : List (C .J)) (g₀ : Form (C .zoneOf z₀)) (b₀ : Begins C js ks₀) where
+  abbrev JJ : ℕ → Arguments
+  JJ = J C js
+
+  pub along : {z : C .Z} {ks : List (C .J)} → Steps C z₀ ks₀ z ks → Along C js ks
+  along start = b₀ .along
+  along (stepped {z = z} {ks = ks} l i k r g p q) =
+      along-set C js ks i k (C .job r) g (ap (λ (u : Job). u .arguments) (P .job-after z k r p q)) (along l)
+  along (refused l y k r p q) = along l
+
+  first : (i : ℕ) → stages C js ks₀ i ≡ fresh (JJ i)
+  first i =
+      option-case (getElem? ks₀ i) (λ e. stage-none C js ks₀ i e)
+      (λ k e. stage-is C js ks₀ i k e ∙ b₀ .stage i k e ∙ ap fresh (sym (J-is C js i (C .jobOf k .arguments) (b₀ .along i k e))))
+
+  abbrev Holds : Zone → (ℕ → Stage) → List ℕ → Type 0
+  Holds z f = Inv JJ (C .zoneOf z₀) g₀ (At JJ (C .zoneOf z₀) g₀ z f) f
+
+  abbrev Orders : (ℕ → ℕ → Type 0) → (ℕ → Stage) → List ℕ → Type 0
+  Orders = Real JJ (C .zoneOf z₀) g₀
+
+  begin : Holds (C .zoneOf z₀) (stages C js ks₀) []
+  unfolding serial Agree times
+  begin = record {
+    put-off = λ k. [];
+    names = λ k. shown refl refl (λ h p b x w. some≢none (sym (ap outcome (w .stage)) ∙ ap outcome (first x) ∙ fresh-none (JJ x)));
+    agree = tt;
+    each = λ i. sym (ap (λ (s : Stage). stands (outcome s)) (first i) ∙ ap stands (fresh-none (JJ i)));
+    fits = λ i. subst (Fits (JJ i)) (sym (first i)) (fresh-fits (JJ i));
+  }
+
+  -- a job that has sent no request does not stand in the order
+  absorb : (H : ℕ → ℕ → Type 0) (z : Zone) (ks : List (C .J)) (o : List ℕ) → Along C js ks → Holds z (stages C js ks) o → Orders H (stages C js ks) o
+      → Orders (λ a b. H a b ⊎ Moment C ks a b) (stages C js ks) o
+  absorb H z ks o al v r = record { over = over; order = order }
+    where
+      over : (a b : ℕ) → H a b ⊎ Moment C ks a b → Ended (stages C js ks a)
+      over a b (inl x) = r .over a b x
+      over a b (inr m) = (m .end, stage-is C js ks a (m .over) (m .is-a) ∙ m .has-ended)
+
+      order : (a b : ℕ) → H a b ⊎ Moment C ks a b → In a o → In b o → Before a b o
+      order a b (inl x) p q = r .order a b x p q
+      order a b (inr m) p q =
+          let u : 0 < times b o = times-in b o q in
+          let s : stages C js ks b ≡ fresh (C .jobOf (m .waiting) .arguments) = stage-is C js ks b (m .waiting) (m .is-b) ∙ m .is-fresh in
+          let t : times b o + times b (v .put-off (key (JJ b .update .name))) ≡ 0 = v .each b ∙ ap (λ (x : Stage). stands (outcome x)) s ∙ ap stands (fresh-none (C .jobOf (m .waiting) .arguments)) in
+          absurd (omega arith)
+
+  abbrev So : C .Z → List (C .J) → (ℕ → ℕ → Type 0) → Type 0
+  So z ks H = (o : List ℕ) × Holds (C .zoneOf z) (stages C js ks) o × Orders H (stages C js ks) o × Form (C .zoneOf z)
+
+  run : {z : C .Z} {ks : List (C .J)} (l : Steps C z₀ ks₀ z ks) → So z ks (EndedFirst C l)
+  unfolding EndedFirst
+  run start = ([], begin, record { over = λ a b x. absurd x; order = λ a b x. absurd x }, g₀)
+  run (refused l y k r p q) = run l
+  run (stepped {z = z} {ks = ks} l i k r g p q) = go (run l)
+    where
+      a : Arguments
+      a = C .jobOf k .arguments
+
+      f : ℕ → Stage
+      f = stages C js ks
+
+      s : Stage
+      s = C .jobOf k .stage
+
+      ks′ : List (C .J)
+      ks′ = set ks i (C .job r)
+
+      is-a : JJ i ≡ a
+      is-a = J-is C js i a (along l i k g)
+
+      zone-is : step (JJ i) (C .zoneOf z) s .zone ≡ C .zoneOf (C .zone r)
+      zone-is = ap (λ (x : Arguments). step x (C .zoneOf z) s .zone) is-a ∙ sym (P .zone-after z k r p q)
+
+      stages-are : stand f i (step (JJ i) (C .zoneOf z) s .stage) ≡ stages C js ks′
+      stages-are =
+          ap (stand f i) (ap (λ (x : Arguments). step x (C .zoneOf z) s .stage) is-a ∙ sym (ap (λ (u : Job). u .stage) (P .job-after z k r p q)))
+          ∙ sym (stages-set C js ks i k (C .job r) g)
+
+      go : So z ks (EndedFirst C l) → So (C .zone r) ks′ (λ x y. EndedFirst C l x y ⊎ Moment C ks′ x y)
+      go (m) =
+          let n = move JJ (C .zoneOf z₀) g₀ (C .zoneOf z) f (m .0) (m .1) (m .3) i s (stage-is C js ks i k g) in
+          let v : Holds (C .zoneOf (C .zone r)) (stages C js ks′) (n .0) =
+          subst (λ (x : Zone). Holds x (stages C js ks′) (n .0)) zone-is
+          (subst (λ (h : ℕ → Stage). Holds (step (JJ i) (C .zoneOf z) s .zone) h (n .0)) stages-are (n .1)) in
+          let w : Orders (EndedFirst C l) (stages C js ks′) (n .0) = subst (λ (h : ℕ → Stage). Orders (EndedFirst C l) h (n .0)) stages-are (n .2 (EndedFirst C l) (m .2)) in
+          (n .0, v, absorb (EndedFirst C l) (C .zoneOf (C .zone r)) ks′ (n .0) (along (stepped l i k r g p q)) v w, subst Form zone-is (form-step (JJ i) (C .zoneOf z) (m .3) s))
+
+  pub counts : {z : C .Z} {ks : List (C .J)} (l : Steps C z₀ ks₀ z ks) (x : ℕ) (k : C .J) → getElem? ks x ≡ some k → Sent (C .jobOf k .stage) (ownSteps C l x)
+  unfolding ownSteps
+  counts start x k e = subst (λ (s : Stage). Sent s 0) (sym (b₀ .stage x k e)) (fresh-sent (C .jobOf k .arguments))
+  counts (refused l y j r p q) x k e = counts l x k e
+  counts (stepped {z = z} {ks = ks} l i j r g p q) x k e = go (ℕ-discrete x i) (λ c d. counts l x c d)
+    where
+      s : Stage
+      s = C .jobOf j .stage
+
+      go : Dec (x ≡ i) → ((c : C .J) → getElem? ks x ≡ some c → Sent (C .jobOf c .stage) (ownSteps C l x))
+          → Sent (C .jobOf k .stage) (ownSteps C l x + cond (eqb i x && going s) 1 0)
+      go (no n) h =
+          let d : Sent (C .jobOf k .stage) (ownSteps C l x) = h k (sym (set-other ks i x (C .job r) n) ∙ e) in
+          let u : ownSteps C l x ≡ ownSteps C l x + cond (eqb i x && going s) 1 0 = rw (ne-eqb i x (λ m. n (sym m))) (omega arith) in
+          subst (Sent (C .jobOf k .stage)) u d
+      go (yes n) h =
+          let d : Sent s (ownSteps C l x) = h j (ap (getElem? ks) n ∙ g) in
+          let t : _≡_ {A = Option (C .J)} (some (C .job r)) (some k) = sym (set-same ks i j (C .job r) g) ∙ ap (getElem? (set ks i (C .job r))) (sym n) ∙ e in
+          let c : C .job r ≡ k = cc in
+          let a : step (C .jobOf j .arguments) (C .zoneOf z) s .stage ≡ C .jobOf k .stage =
+          sym (ap (λ (v : Job). v .stage) (P .job-after z j r p q)) ∙ ap (λ (v : C .J). C .jobOf v .stage) c in
+          let u : ownSteps C l x + cond (going s) 1 0 ≡ ownSteps C l x + cond (eqb i x && going s) 1 0 = rw (eq-eqb i x (sym n)) refl in
+          subst (Sent (C .jobOf k .stage)) u (subst (λ (v : Stage). Sent v (ownSteps C l x + cond (going s) 1 0)) a (sent-step (C .jobOf j .arguments) (C .zoneOf z) s (ownSteps C l x) d))
+
+  -- a job that does not stand in the order changed nothing
+  idle : {z : C .Z} {ks : List (C .J)} (l : Steps C z₀ ks₀ z ks) (x : ℕ) (k : C .J) → getElem? ks x ≡ some k → outcome (C .jobOf k .stage) ≡ none → ChangedNothing C l x
+  unfolding ChangedNothing
+  idle start x k e h = tt
+  idle (refused l y j r p q) x k e h = idle l x k e h
+  idle (stepped {z = z} {ks = ks} l i j r g p q) x k e h = go (ℕ-discrete x i) (λ c d m. idle l x c d m)
+    where
+      s : Stage
+      s = C .jobOf j .stage
+
+      go : Dec (x ≡ i) → ((c : C .J) → getElem? ks x ≡ some c → outcome (C .jobOf c .stage) ≡ none → ChangedNothing C l x)
+          → ChangedNothing C l x × (i ≡ x → C .zoneOf (C .zone r) ≡ C .zoneOf z)
+      go (no n) f = (f k (sym (set-other ks i x (C .job r) n) ∙ e) h, λ m. absurd (n (sym m)))
+      go (yes n) f =
+          let t : _≡_ {A = Option (C .J)} (some (C .job r)) (some k) = sym (set-same ks i j (C .job r) g) ∙ ap (getElem? (set ks i (C .job r))) (sym n) ∙ e in
+          let c : C .job r ≡ k = cc in
+          let a : step (C .jobOf j .arguments) (C .zoneOf z) s .stage ≡ C .jobOf k .stage =
+          sym (ap (λ (v : Job). v .stage) (P .job-after z j r p q)) ∙ ap (λ (v : C .J). C .jobOf v .stage) c in
+          let u = quiet (C .jobOf j .arguments) (C .zoneOf z) s (ap outcome a ∙ h) in
+          (f j (ap (getElem? ks) n ∙ g) (u .1), λ m. P .zone-after z j r p q ∙ u .0)
+
+-- ---- the end of the list
+
+ended-ends : (C : Calls) (ks : List (C .J)) (es : List End) → map (λ (k : C .J). C .jobOf k .stage) ks ≡ map ended es
+    → (i : ℕ) → ((getElem? ks i ≡ none) × (getElem? es i ≡ none)) ⊎ ((k : C .J) × (e : End) × (getElem? ks i ≡ some k) × (getElem? es i ≡ some e) × (C .jobOf k .stage ≡ ended e))
+ended-ends C [] [] p i = inl (refl, refl)
+ended-ends C [] (e ∷ es) p i = let z : _≡_ {A = ℕ} 0 1 = cc in absurd (omega arith)
+ended-ends C (k ∷ ks) [] p i = let z : _≡_ {A = ℕ} 0 1 = cc in absurd (omega arith)
+ended-ends C (k ∷ ks) (e ∷ es) p zero = inr (k, e, refl, refl, (let q : C .jobOf k .stage ≡ ended e = cc in q))
+ended-ends C (k ∷ ks) (e ∷ es) p (suc i) = ended-ends C ks es (let q : map (λ (k : C .J). C .jobOf k .stage) ks ≡ map ended es = cc in q) i
+
+module _ (C : Calls) (P : Promises C) (s : Story C) where
+  abbrev pub js : List Arguments
+  js = s .arguments
+
+  abbrev f : ℕ → Stage
+  f = stages C js (s .last-jobs)
+
+  pub g₀ : Form (C .zoneOf (s .first-zone))
+  g₀ = P .formed (s .first-zone) (s .formed)
+
+  pub b₀ : Begins C js (s .first-jobs)
+  b₀ = begins C P js (s .first-jobs) (s .fresh-jobs)
+
+  abbrev x₀ : Zone
+  x₀ = C .zoneOf (s .first-zone)
+
+  abbrev x₁ : Zone
+  x₁ = C .zoneOf (s .last-zone)
+
+  -- a number below that of the jobs: its job's end; any other: never stepped
+  record Last (i : ℕ) (e : End) : Type 0 where
+    arguments : getElem? js i ≡ some (J C js i)
+    is-end : getElem? (s .ends) i ≡ some e
+    stage : f i ≡ ended e
+
+  last : (i : ℕ) → ((e : End) × Last i e) ⊎ ((f i ≡ fresh (J C js i)) × (getElem? (s .ends) i ≡ none))
+  last i = go (ended-ends C (s .last-jobs) (s .ends) (s .all-ended) i)
+    where
+      go : ((getElem? (s .last-jobs) i ≡ none) × (getElem? (s .ends) i ≡ none))
+          ⊎ ((k : C .J) × (e : End) × (getElem? (s .last-jobs) i ≡ some k) × (getElem? (s .ends) i ≡ some e) × (C .jobOf k .stage ≡ ended e))
+          → ((e : End) × Last i e) ⊎ ((f i ≡ fresh (J C js i)) × (getElem? (s .ends) i ≡ none))
+      go (inl p) = inr (stage-none C js (s .last-jobs) i (p .0), p .1)
+      go (inr p) =
+          let a : getElem? js i ≡ some (C .jobOf (p .0) .arguments) = along C P js (s .first-zone) (s .first-jobs) g₀ b₀ (s .steps) i (p .0) (p .2) in
+          inl (
+            p .1,
+            record {
+              arguments = a ∙ ap some (sym (J-is C js i (C .jobOf (p .0) .arguments) a));
+              is-end = p .3;
+              stage = stage-is C js (s .last-jobs) i (p .0) (p .2) ∙ p .4;
+            },
+          )
+
+  end-of : (i : ℕ) (e : End) → getElem? (s .ends) i ≡ some e → Last i e
+  end-of i e p = go (last i)
+    where
+      go : ((d : End) × Last i d) ⊎ ((f i ≡ fresh (J C js i)) × (getElem? (s .ends) i ≡ none)) → Last i e
+      go (inl m) = let t : _≡_ {A = Option End} (some (m .0)) (some e) = sym (m .1 .is-end) ∙ p in let q : m .0 ≡ e = cc in subst (Last i) q (m .1)
+      go (inr m) = absurd (some≢none (sym p ∙ m .1))
+
+  -- no remove job is half way
+  settled : (i : ℕ) → f i ≡ beforeSecond → ⊥
+  settled i p = go (last i)
+    where
+      go : ((d : End) × Last i d) ⊎ ((f i ≡ fresh (J C js i)) × (getElem? (s .ends) i ≡ none)) → ⊥
+      go (inl m) = ended≢2 (m .0, m .1 .stage) p
+      go (inr m) = some≢none (sym (ap outcome p) ∙ ap outcome (m .0) ∙ fresh-none (J C js i))
+
+  module _ (o : List ℕ) (v : Inv (J C js) x₀ g₀ (At (J C js) x₀ g₀ x₁ f) f o) (form : Form x₁) where
+    all-shown : (k : Octets) → (v .put-off k ≡ []) × (serial (J C js) x₀ o .at k ≡ x₁ .at k)
+    all-shown k = go (v .names k)
+      where
+        go : At (J C js) x₀ g₀ x₁ f (serial (J C js) x₀ o) k (v .put-off k) → (v .put-off k ≡ []) × (serial (J C js) x₀ o .at k ≡ x₁ .at k)
+        go (shown a e w) = (a, e)
+        go (emptied h g p ps a e b d u c w) = absurd (settled p (w .0 .stage))
+
+    each : (i : ℕ) → times i o ≡ stands (outcome (f i))
+    each i = let e : times i (v .put-off (key (J C js i .update .name))) ≡ 0 = ap (times i) (all-shown (key (J C js i .update .name)) .0) ∙ (unfold times in refl) in omega (arith, v .each i)
+
+    zone-same : serial (J C js) x₀ o ≡ x₁
+    zone-same = zone-eq (serial (J C js) x₀ o) x₁ (form-serial (J C js) x₀ o g₀ .names) (form .names) (λ k. all-shown k .1)
+
+    last-in : (i : ℕ) → In i o → (e : End) × Last i e
+    last-in i h = go (last i)
+      where
+        go : ((d : End) × Last i d) ⊎ ((f i ≡ fresh (J C js i)) × (getElem? (s .ends) i ≡ none)) → (e : End) × Last i e
+        go (inl m) = m
+        go (inr m) =
+            let u : 0 < times i o = times-in i o h in
+            let t : times i o ≡ 0 = each i ∙ ap (λ (x : Stage). stands (outcome x)) (m .0) ∙ ap stands (fresh-none (J C js i)) in
+            absurd (omega arith)
+
+    turn : (x : Zone) (q : List ℕ) → ((i : ℕ) → In i q → (e : End) × Last i e) → Agree (J C js) (λ i. outcome (f i)) x q
+        → InTurn js (s .ends) x q (serial (J C js) x q)
+    unfolding Agree serial
+    turn x [] h a = nobody
+    turn x (i ∷ q) h a =
+        let m = h i (inl refl) in
+        next i (J C js i) (m .0) (a .0 .0) (m .1 .arguments) (m .1 .is-end) (whole-sends (J C js i) x (a .0 .0) (a .0 .1)) (a .0 .2 ∙ ap outcome (m .1 .stage))
+        (turn (whole (J C js i) x .zone) q (λ k p. h k (inr p)) (a .1))
+
+    explains : Explains js (s .ends) x₀ x₁ o
+    explains = record {
+      each = λ i e p. each i ∙ ap (λ (t : Stage). stands (outcome t)) (end-of i e p .stage);
+      in-turn = subst (InTurn js (s .ends) x₀ o) zone-same (turn x₀ o last-in (v .agree));
+    }
+
+module _ (C : Calls) (P : Promises C) (s : Story C) (i : ℕ) (e : End) (p : getElem? (s .ends) i ≡ some e) where
+  -- job i at the end of the list
+  pub its-job : (k : C .J) × (getElem? (s .last-jobs) i ≡ some k) × (C .jobOf k .stage ≡ ended e)
+  its-job = go (ended-ends C (s .last-jobs) (s .ends) (s .all-ended) i)
+    where
+      go : ((getElem? (s .last-jobs) i ≡ none) × (getElem? (s .ends) i ≡ none))
+          ⊎ ((k : C .J) × (d : End) × (getElem? (s .last-jobs) i ≡ some k) × (getElem? (s .ends) i ≡ some d) × (C .jobOf k .stage ≡ ended d))
+          → (k : C .J) × (getElem? (s .last-jobs) i ≡ some k) × (C .jobOf k .stage ≡ ended e)
+      go (inl m) = absurd (some≢none (sym p ∙ m .1))
+      go (inr m) =
+          let t : _≡_ {A = Option End} (some (m .1)) (some e) = sym (m .3) ∙ p in
+          let u : m .1 ≡ e = cc in
+          (m .0, m .2, m .4 ∙ ap ended u)
+
+  counts-right : (n : ℕ) → sent e ≡ some n → n ≡ ownSteps C (s .steps) i
+  counts-right n q =
+      let c : Sent (C .jobOf (its-job .0) .stage) (ownSteps C (s .steps) i) =
+      counts C P (s .arguments) (s .first-zone) (s .first-jobs) (g₀ C P s) (b₀ C P s) (s .steps) i (its-job .0) (its-job .1) in
+      let d : Sent (ended e) (ownSteps C (s .steps) i) = subst (λ (t : Stage). Sent t (ownSteps C (s .steps) i)) (its-job .2) c in
+      d n q
+
+  left-out : verdict e ≡ none → ChangedNothing C (s .steps) i
+  left-out q = idle C P (s .arguments) (s .first-zone) (s .first-jobs) (g₀ C P s) (b₀ C P s) (s .steps) i (its-job .0) (its-job .1) (ap outcome (its-job .2) ∙ q)
+
+pub stronger : (C : Calls) → Promises C → Stronger C
+stronger C P s =
+    let m = run C P (s .arguments) (s .first-zone) (s .first-jobs) (g₀ C P s) (b₀ C P s) (s .steps) in (
+      record { order = m .0; explains = explains C P s (m .0) (m .1) (m .3); counts = λ i e n p. counts-right C P s i e p n; left-out = left-out C P s },
+      m .2 .order,
+    )
+
+pub demand3 : (C : Calls) → Promises C → Demand3 C
+demand3 C P s a = stronger C P s .0

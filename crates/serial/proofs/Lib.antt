@@ -1,0 +1,11 @@
+pub mod ListLaws
+pub mod HostLaws
+pub mod RequestLaws
+pub mod OrderLaws
+pub mod Placing
+pub mod Demand
+pub mod StageLaws
+pub mod Cases
+pub mod RemovesDiffer
+pub mod InTime
+pub mod Running
