@@ -116,6 +116,62 @@ jespurla_server_list_answer jespurla_server_list(jespurla_server_list_state list
                                                  jespurla_moment clock,
                                                  const uint8_t *area, size_t area_length);
 
+/* A record of the lease table. */
+#define JESPURLA_LEASE_FREE 0
+#define JESPURLA_LEASE_LEASED 1
+
+typedef struct {
+    jespurla_moment last;   /* the last transaction */
+    jespurla_moment expiry; /* a moment, or JESPURLA_NEVER */
+    uint8_t chaddr[16];     /* the hardware address: zeros from hlen on */
+    uint8_t id[64];         /* the client id; octets from idlen on are not looked at */
+    uint8_t relay[64];      /* relay agent information; octets from relaylen on are not looked at */
+    uint32_t address;       /* as a number: 10.0.0.1 is 0x0a000001 */
+    uint8_t state;          /* JESPURLA_LEASE_FREE or JESPURLA_LEASE_LEASED */
+    uint8_t htype;          /* 0 where hlen is 0 */
+    uint8_t hlen;           /* 0 to 16 */
+    uint8_t idlen;          /* 0, or 2 to 64 */
+    uint8_t relaylen;       /* 0 to 64 */
+} jespurla_lease;
+
+/* The kinds of reply (RFC 4388). */
+#define JESPURLA_LEASEUNASSIGNED 11
+#define JESPURLA_LEASEUNKNOWN 12
+#define JESPURLA_LEASEACTIVE 13
+
+typedef struct {
+    uint32_t refusal;
+    uint32_t kind;
+    uint32_t length;
+} jespurla_lease_answer;
+
+/*
+ * The reply to a DHCPv4 lease query.
+ *
+ * clock: now.
+ * table, count: the lease table, at most 256 records, addresses nonzero and strictly rising. It is
+ * only read.
+ * server: this server's address, as a number.
+ * query, query_length: the packet.
+ * reply, reply_length: where the reply goes; at least 648 octets.
+ *
+ * Result: refusal 0, the kind of the reply and how many octets it has at the front of reply; the
+ * octets of reply past those keep their values. Beside a refusal kind and length are 0.
+ * Refusals, the first that applies: 15 clock above JESPURLA_LATEST; 9 the table breaks its form; 8
+ * reply under 648 octets; 1 packet under 240 or over 1,500 octets, or a wrong cookie; 2 op not 1; 3
+ * options past the end, no end option, or 53 or 61 twice; 4 option 53 absent, not one octet or not
+ * 10; 5 giaddr zero; 6 not exactly one key; 7 hardware key with hlen 0 or above 16, or a client id of
+ * 0 or 1 octets.
+ * Promise: the answer and every octet of reply, refused or not, are those that the rules give. A
+ * query by client that meets no refusal is answered LEASEUNKNOWN exactly if no active lease of that
+ * client stands in the table.
+ */
+jespurla_lease_answer jespurla_lease_query(jespurla_moment clock,
+                                           const jespurla_lease *table, size_t count,
+                                           uint32_t server,
+                                           const uint8_t *query, size_t query_length,
+                                           uint8_t *reply, size_t reply_length);
+
 /*
  * A DNS zone by value. Every struct below is made of octets alone, so it has no gaps: an entry has 374
  * octets and a zone 23,936.
@@ -220,6 +276,71 @@ jespurla_answered jespurla_request_remove_address(jespurla_zone zone, jespurla_n
 jespurla_answered jespurla_request_remove_name(jespurla_zone zone, jespurla_name name,
                                                jespurla_dhcid dhcid, uint8_t family,
                                                jespurla_address address);
+
+/*
+ * A job of RFC 4703: it sends its requests one step at a time, so that the steps of several boxes may
+ * be mixed on one zone.
+ */
+#define JESPURLA_ADD_BEFORE_A 1
+#define JESPURLA_ADD_BEFORE_B 2
+#define JESPURLA_ADD_DONE 3
+#define JESPURLA_ADD_CONFLICT 4
+#define JESPURLA_ADD_NO_ROOM 5
+#define JESPURLA_ADD_GAVE_UP 6
+#define JESPURLA_REMOVE_BEFORE_FIRST 11
+#define JESPURLA_REMOVE_BEFORE_SECOND 12
+#define JESPURLA_REMOVE_NOT_OURS 13
+#define JESPURLA_REMOVE_GONE 14
+#define JESPURLA_REMOVE_KEPT 15
+
+typedef struct {
+    uint8_t stage;  /* one of the above */
+    uint8_t count;  /* the requests that an add has sent; of a remove not looked at */
+    uint8_t family;
+    uint8_t policy; /* of a remove not looked at */
+    jespurla_name name;
+    jespurla_dhcid dhcid;
+    jespurla_address address;
+} jespurla_job;
+
+typedef struct {
+    uint32_t refusal;
+    jespurla_job job;
+} jespurla_new_job;
+
+typedef struct {
+    uint32_t refusal;
+    jespurla_zone zone;
+    jespurla_job job;
+} jespurla_stepped;
+
+/*
+ * A fresh add, or a fresh remove, that has sent nothing yet.
+ *
+ * Refusals, the first that applies: 18 a family or policy not listed; 11 a name that is not full. A
+ * refused call gives a job of zeros, which no step takes.
+ */
+jespurla_new_job jespurla_new_add(jespurla_name name, jespurla_dhcid dhcid, uint8_t family,
+                                  jespurla_address address, uint8_t policy);
+
+jespurla_new_job jespurla_new_remove(jespurla_name name, jespurla_dhcid dhcid, uint8_t family,
+                                     jespurla_address address);
+
+/*
+ * One step of a job: the one request that its stage asks for, tested and done at once on the zone,
+ * and where the answer leads the job. An add starts with A; YXDOMAIN leads to B, NXDOMAIN back to A;
+ * it ends done, in conflict, without room, or, where its sixth request says NXDOMAIN, having given
+ * up. A remove sends its two requests. A job that has ended changes nothing.
+ *
+ * Refusals, the first that applies: 17 the zone breaks its form; 18 a stage, family or policy not
+ * listed, or a count that the stage can't have; 11 a name that is not full. A refused step returns
+ * the very zone and job that it was handed.
+ * Promise: the refusal, the job, and the names, owners and addresses of the zone are those that the
+ * rules give. Of all the steps together: however the steps of any jobs are mixed, some order of the
+ * whole jobs, adds without room and those that gave up left out, ends with the same zone and the same
+ * answer to every add (docs/DEMAND-3.md).
+ */
+jespurla_stepped jespurla_job_step(jespurla_zone zone, jespurla_job job);
 
 #ifdef __cplusplus
 }

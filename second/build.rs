@@ -1,7 +1,7 @@
 //! Tells the linker where the product's archive lies.
 //!
-//! Only the integration tests name the archive (tests/product/mod.rs), so the
-//! library and its unit tests build without it.
+//! Only the integration tests and the benchmark name the archive
+//! (tests/product), so the library and its unit tests build without it.
 
 use std::env;
 use std::path::PathBuf;

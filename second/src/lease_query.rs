@@ -5,8 +5,7 @@
 
 use std::cmp::Reverse;
 
-use crate::server_list::Expiry;
-use crate::LATEST_MOMENT;
+use crate::{is_expiry, LATEST_MOMENT, NEVER};
 
 /// Records a table may have.
 pub const TABLE_MAX: usize = 256;
@@ -69,7 +68,8 @@ pub struct Lease {
     /// Octets past `relay_len` are ignored.
     pub relay: [u8; 64],
     pub last_transaction: u64,
-    pub expiry: Expiry,
+    /// A moment or never; other numbers break the form.
+    pub expiry: u64,
 }
 
 impl Lease {
@@ -83,12 +83,12 @@ impl Lease {
             && self.id_len <= 64
             && self.relay_len <= 64
             && self.last_transaction <= LATEST_MOMENT
-            && self.expiry.is_well_formed()
+            && is_expiry(self.expiry)
     }
 
     /// A lease ends at its expiry moment, not after it.
     fn is_active(&self, now: u64) -> bool {
-        self.state == 1 && (self.expiry.is_never() || self.expiry.moment > now)
+        self.state == 1 && self.expiry > now
     }
 
     fn hardware(&self) -> &[u8] {
@@ -105,10 +105,10 @@ impl Lease {
 
     /// Option 51: seconds to the expiry.
     fn seconds_left(&self, now: u64) -> u32 {
-        if self.expiry.is_never() {
+        if self.expiry == NEVER {
             return u32::MAX;
         }
-        (self.expiry.moment - now).min(LONGEST_SPAN) as u32
+        (self.expiry - now).min(LONGEST_SPAN) as u32
     }
 
     /// Option 91: seconds since the last transaction, 0 if that is to come.
@@ -427,7 +427,7 @@ mod tests {
             relay_len: 2,
             relay: [9; 64],
             last_transaction: 900,
-            expiry: Expiry::at(2_000),
+            expiry: 2_000,
         };
         lease.chaddr[..6].copy_from_slice(&MAC);
         lease
@@ -582,13 +582,13 @@ mod tests {
             assert_eq!((reply[249], reply[255], reply.len()), (51, 91, 262));
             (number_at(&reply, 251), number_at(&reply, 257))
         };
-        assert_eq!(spans(0, Expiry::NEVER, 1), (u32::MAX, 0));
+        assert_eq!(spans(0, NEVER, 1), (u32::MAX, 0));
         let long = 4_294_967_294;
-        assert_eq!(spans(0, Expiry::at(long), 0), (long as u32, 0));
-        assert_eq!(spans(0, Expiry::at(long + 1), 0), (long as u32, 0));
-        assert_eq!(spans(0, Expiry::at(LATEST_MOMENT), 0), (long as u32, 0));
-        assert_eq!(spans(long + 2, Expiry::NEVER, 0), (u32::MAX, u32::MAX));
-        assert_eq!(spans(long + 2, Expiry::NEVER, 2), (u32::MAX, long as u32));
+        assert_eq!(spans(0, long, 0), (long as u32, 0));
+        assert_eq!(spans(0, long + 1, 0), (long as u32, 0));
+        assert_eq!(spans(0, LATEST_MOMENT, 0), (long as u32, 0));
+        assert_eq!(spans(long + 2, NEVER, 0), (u32::MAX, u32::MAX));
+        assert_eq!(spans(long + 2, NEVER, 2), (u32::MAX, long as u32));
     }
 
     #[test]
@@ -615,9 +615,7 @@ mod tests {
 
     #[test]
     fn form_of_a_record() {
-        let never = Expiry { kind: 1, moment: 1 };
-        let unlisted = Expiry { kind: 2, moment: 0 };
-        let faults: [fn(&mut Lease); 11] = [
+        let faults: [fn(&mut Lease); 12] = [
             |lease| lease.address = 0,
             |lease| lease.state = 2,
             |lease| lease.hlen = 17,
@@ -628,15 +626,13 @@ mod tests {
             |lease| lease.id_len = 65,
             |lease| lease.relay_len = 65,
             |lease| lease.last_transaction = LATEST_MOMENT + 1,
-            |lease| lease.expiry.moment = LATEST_MOMENT + 1,
+            |lease| lease.expiry = LATEST_MOMENT + 1,
+            |lease| lease.expiry = NEVER - 1,
         ];
         for fault in faults {
             let mut bad = lease(5);
             fault(&mut bad);
             assert_eq!(refusal(&[bad], &[]), 9);
-        }
-        for expiry in [never, unlisted] {
-            assert_eq!(refusal(&[Lease { expiry, ..lease(5) }], &[]), 9);
         }
         let mut bare = lease(5);
         (bare.htype, bare.hlen, bare.chaddr) = (0, 0, [0; 16]);

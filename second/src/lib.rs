@@ -22,3 +22,11 @@ pub mod zone;
 
 /// The last moment the clock can show.
 pub const LATEST_MOMENT: u64 = (1 << 48) - 1;
+/// The expiry of what doesn't end. It is above every moment, so plain order
+/// puts it last.
+pub const NEVER: u64 = u64::MAX;
+
+/// Whether a number is an expiry: a moment or never.
+pub(crate) fn is_expiry(number: u64) -> bool {
+    number <= LATEST_MOMENT || number == NEVER
+}

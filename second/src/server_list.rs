@@ -6,7 +6,7 @@
 
 use std::fmt::Write;
 
-use crate::LATEST_MOMENT;
+use crate::{is_expiry, LATEST_MOMENT, NEVER};
 
 /// Places in the list.
 pub const PLACES: usize = 8;
@@ -20,53 +20,19 @@ const ADDRESSES_READ: usize = 3;
 /// The Lifetime that stands for no end.
 const LIFETIME_NEVER: u32 = u32::MAX;
 
-/// When an entry or a lease ends: at a moment or never.
-#[derive(Clone, Copy, PartialEq, Eq, Debug, Default)]
-pub struct Expiry {
-    /// 0 a moment, 1 never; other numbers break the form.
-    pub kind: u8,
-    /// The moment; 0 beside never.
-    pub moment: u64,
-}
-
-impl Expiry {
-    pub const NEVER: Expiry = Expiry { kind: 1, moment: 0 };
-
-    pub const fn at(moment: u64) -> Expiry {
-        Expiry { kind: 0, moment }
-    }
-
-    pub fn is_never(&self) -> bool {
-        self.kind == 1
-    }
-
-    /// Whether kind and moment are ones the clock and the kinds allow.
-    pub fn is_well_formed(&self) -> bool {
-        match self.kind {
-            0 => self.moment <= LATEST_MOMENT,
-            1 => self.moment == 0,
-            _ => false,
-        }
-    }
-
-    /// Rises with the time left: never comes after every moment.
-    fn rank(&self) -> (u8, u64) {
-        (self.kind, self.moment)
-    }
-}
-
 /// A server and its end.
 #[derive(Clone, Copy, PartialEq, Eq, Debug, Default)]
 pub struct Entry {
     pub address: [u8; 16],
-    pub expiry: Expiry,
+    /// A moment or never; other numbers break the form.
+    pub expiry: u64,
 }
 
 /// Up to eight servers, most preferred first, and the last accepted clock.
 #[derive(Clone, Copy, PartialEq, Eq, Debug, Default)]
 pub struct ServerList {
     /// Servers held; above eight breaks the form.
-    pub count: u8,
+    pub count: usize,
     /// Places past the count are ignored, and zero in a returned list.
     pub entries: [Entry; PLACES],
     pub clock: u64,
@@ -75,7 +41,7 @@ pub struct ServerList {
 impl ServerList {
     /// The entries held; all places if the count claims more.
     fn held(&self) -> &[Entry] {
-        &self.entries[..usize::from(self.count).min(PLACES)]
+        &self.entries[..self.count.min(PLACES)]
     }
 
     /// The form whose breach is refusal 31.
@@ -86,9 +52,9 @@ impl ServerList {
                 .iter()
                 .any(|other| other.address == entry.address)
         };
-        usize::from(self.count) <= PLACES
+        self.count <= PLACES
             && self.clock <= LATEST_MOMENT
-            && held.iter().all(|entry| entry.expiry.is_well_formed())
+            && held.iter().all(|entry| is_expiry(entry.expiry))
             && held.iter().enumerate().all(distinct)
     }
 
@@ -100,8 +66,8 @@ impl ServerList {
             ..ServerList::default()
         };
         for entry in self.held() {
-            if entry.expiry.is_never() || entry.expiry.moment >= now {
-                list.entries[usize::from(list.count)] = *entry;
+            if entry.expiry >= now {
+                list.entries[list.count] = *entry;
                 list.count += 1;
             }
         }
@@ -110,16 +76,14 @@ impl ServerList {
 
     /// Takes one entry out; those behind it move up.
     fn remove(&mut self, at: usize) {
-        let count = usize::from(self.count);
-        self.entries.copy_within(at + 1..count, at);
-        self.entries[count - 1] = Entry::default();
+        self.entries.copy_within(at + 1..self.count, at);
         self.count -= 1;
+        self.entries[self.count] = Entry::default();
     }
 
     /// Puts an entry in; those from `at` on move back. There must be room.
     fn insert(&mut self, at: usize, entry: Entry) {
-        let count = usize::from(self.count);
-        self.entries.copy_within(at..count, at + 1);
+        self.entries.copy_within(at..self.count, at + 1);
         self.entries[at] = entry;
         self.count += 1;
     }
@@ -128,7 +92,7 @@ impl ServerList {
     fn first_to_expire(&self) -> usize {
         let mut first = 0;
         for (at, entry) in self.held().iter().enumerate() {
-            if entry.expiry.rank() <= self.entries[first].expiry.rank() {
+            if entry.expiry <= self.entries[first].expiry {
                 first = at;
             }
         }
@@ -170,11 +134,11 @@ impl ServerList {
 }
 
 /// The expiry a Lifetime gives, held to the clock's last moment.
-fn expiry_after(now: u64, lifetime: u32) -> Expiry {
+fn expiry_after(now: u64, lifetime: u32) -> u64 {
     if lifetime == LIFETIME_NEVER {
-        Expiry::NEVER
+        NEVER
     } else {
-        Expiry::at((now + u64::from(lifetime)).min(LATEST_MOMENT))
+        (now + u64::from(lifetime)).min(LATEST_MOMENT)
     }
 }
 
@@ -224,10 +188,10 @@ pub fn print(result: &Result<ServerList, u8>) -> String {
         for octet in entry.address {
             write!(lines, "{octet:02x}").expect("a string takes all");
         }
-        if entry.expiry.is_never() {
+        if entry.expiry == NEVER {
             lines.push_str(" never\n");
         } else {
-            writeln!(lines, " {}", entry.expiry.moment).expect("a string takes all");
+            writeln!(lines, " {}", entry.expiry).expect("a string takes all");
         }
     }
     lines
@@ -253,10 +217,10 @@ mod tests {
         octets
     }
 
-    fn list(clock: u64, servers: &[(u8, Expiry)]) -> ServerList {
+    fn list(clock: u64, servers: &[(u8, u64)]) -> ServerList {
         let mut list = ServerList {
             clock,
-            count: servers.len() as u8,
+            count: servers.len(),
             ..Default::default()
         };
         for (place, &(last, expiry)) in list.entries.iter_mut().zip(servers) {
@@ -301,7 +265,7 @@ mod tests {
 
     #[test]
     fn p8_inserts_go_ahead_in_their_order() {
-        let held = list(0, &[(3, Expiry::NEVER)]);
+        let held = list(0, &[(3, NEVER)]);
         let next = update(&held, 0, &option(60, &[1, 2])).unwrap();
         assert_eq!(lasts(&next), [1, 2, 3]);
     }
@@ -309,7 +273,7 @@ mod tests {
     #[test]
     fn p9_held_at_its_expiry_and_gone_after() {
         let held = update(&ServerList::default(), 100, &option(60, &[1])).unwrap();
-        assert_eq!(held.entries[0].expiry, Expiry::at(160));
+        assert_eq!(held.entries[0].expiry, 160);
         assert_eq!(lasts(&update(&held, 160, &[]).unwrap()), [1]);
         let gone = update(&held, 161, &[]).unwrap();
         assert_eq!(
@@ -323,47 +287,43 @@ mod tests {
 
     #[test]
     fn lifetime_zero_removes_or_does_nothing() {
-        let held = list(
-            5,
-            &[(1, Expiry::NEVER), (2, Expiry::at(9)), (3, Expiry::at(9))],
-        );
+        let held = list(5, &[(1, NEVER), (2, 9), (3, 9)]);
         let next = update(&held, 5, &option(0, &[2, 7])).unwrap();
-        assert_eq!(next, list(5, &[(1, Expiry::NEVER), (3, Expiry::at(9))]));
+        assert_eq!(next, list(5, &[(1, NEVER), (3, 9)]));
     }
 
     #[test]
     fn refresh_keeps_the_place_and_caps_the_moment() {
-        let held = list(5, &[(1, Expiry::NEVER), (2, Expiry::at(9))]);
+        let held = list(5, &[(1, NEVER), (2, 9)]);
         let next = update(&held, 6, &option(60, &[2, 2])).unwrap();
-        assert_eq!(next, list(6, &[(1, Expiry::NEVER), (2, Expiry::at(66))]));
+        assert_eq!(next, list(6, &[(1, NEVER), (2, 66)]));
         let late = LATEST_MOMENT - 1;
         let next = update(&held, late, &option(60, &[1])).unwrap();
-        assert_eq!(next, list(late, &[(1, Expiry::at(LATEST_MOMENT))]));
+        assert_eq!(next, list(late, &[(1, LATEST_MOMENT)]));
         let next = update(&held, 5, &option(u32::MAX, &[2])).unwrap();
-        assert_eq!(next, list(5, &[(1, Expiry::NEVER), (2, Expiry::NEVER)]));
+        assert_eq!(next, list(5, &[(1, NEVER), (2, NEVER)]));
     }
 
     #[test]
     fn full_list_gives_up_the_first_to_expire() {
-        let at = Expiry::at;
-        let mut servers: Vec<_> = (1..=8).map(|last| (last, at(50))).collect();
-        servers[2].1 = at(40);
-        servers[5].1 = at(40);
+        let mut servers: Vec<_> = (1..=8).map(|last| (last, 50)).collect();
+        servers[2].1 = 40;
+        servers[5].1 = 40;
         let next = update(&list(0, &servers), 0, &option(60, &[9])).unwrap();
         assert_eq!(lasts(&next), [9, 1, 2, 3, 4, 5, 7, 8]);
         // Never is last to go, even beside the clock's last moment.
-        let mut servers = [(0, Expiry::NEVER); 8];
+        let mut servers = [(0, NEVER); 8];
         (1..)
             .zip(&mut servers)
             .for_each(|(last, server)| server.0 = last);
-        servers[0].1 = at(LATEST_MOMENT);
+        servers[0].1 = LATEST_MOMENT;
         let next = update(&list(0, &servers), 0, &option(60, &[9])).unwrap();
         assert_eq!(lasts(&next), [9, 2, 3, 4, 5, 6, 7, 8]);
     }
 
     #[test]
     fn an_option_may_give_up_its_own_insert() {
-        let mut servers = [(0, Expiry::NEVER); 8];
+        let mut servers = [(0, NEVER); 8];
         (1..)
             .zip(&mut servers)
             .for_each(|(last, server)| server.0 = last);
@@ -376,22 +336,21 @@ mod tests {
         let area = [option(60, &[1, 2, 3, 4]), option(70, &[5, 2, 6])].concat();
         let next = update(&ServerList::default(), 0, &area).unwrap();
         assert_eq!(lasts(&next), [5, 6, 1, 2, 3]);
-        assert_eq!(next.entries[3].expiry, Expiry::at(70));
+        assert_eq!(next.entries[3].expiry, 70);
     }
 
     #[test]
     fn refusals_come_in_order() {
-        let good = list(7, &[(1, Expiry::at(9)), (2, Expiry::NEVER)]);
-        let twice = list(7, &[(1, Expiry::at(9)), (1, Expiry::NEVER)]);
-        let late = list(7, &[(1, Expiry::at(LATEST_MOMENT + 1))]);
-        let kind = list(7, &[(1, Expiry { kind: 2, moment: 0 })]);
-        let never = list(7, &[(1, Expiry { kind: 1, moment: 1 })]);
+        let good = list(7, &[(1, 9), (2, NEVER)]);
+        let twice = list(7, &[(1, 9), (1, NEVER)]);
+        let late = list(7, &[(1, LATEST_MOMENT + 1)]);
+        let below_never = list(7, &[(1, NEVER - 1)]);
         let over = ServerList { count: 9, ..good };
         let clock = ServerList {
             clock: LATEST_MOMENT + 1,
             ..good
         };
-        for bad in [twice, late, kind, never, over, clock] {
+        for bad in [twice, late, below_never, over, clock] {
             assert_eq!(update(&bad, 6, &[25]), Err(31));
         }
         for now in [6, LATEST_MOMENT + 1] {
@@ -412,11 +371,11 @@ mod tests {
 
     #[test]
     fn places_past_the_count_are_ignored_and_returned_zero() {
-        let mut held = list(7, &[(1, Expiry::at(9))]);
+        let mut held = list(7, &[(1, 9)]);
         held.entries[1] = Entry {
             address: address(1),
-            expiry: Expiry { kind: 9, moment: 9 },
+            expiry: NEVER - 9,
         };
-        assert_eq!(update(&held, 7, &[]), Ok(list(7, &[(1, Expiry::at(9))])));
+        assert_eq!(update(&held, 7, &[]), Ok(list(7, &[(1, 9)])));
     }
 }

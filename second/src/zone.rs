@@ -308,13 +308,16 @@ pub fn request_remove_first(
     Ok(send_remove_first(zone, name, dhcid, family, address))
 }
 
-/// Second remove request: the owner's name without addresses is deleted.
+/// Second remove request: the owner's name without addresses is deleted. The
+/// family is the job's; it is checked, but nothing more.
 pub fn request_remove_second(
     zone: &mut Zone,
     name: &Name,
     dhcid: &Dhcid,
+    family: u8,
 ) -> Result<SecondAnswer, u8> {
     check(zone)?;
+    check_numbers(family, 0)?;
     check_name(name)?;
     Ok(send_remove_second(zone, name, dhcid))
 }
@@ -453,8 +456,9 @@ pub fn request_remove_second_by_value(
     mut zone: Zone,
     name: &Name,
     dhcid: &Dhcid,
+    family: u8,
 ) -> (Result<SecondAnswer, u8>, Zone) {
-    (request_remove_second(&mut zone, name, dhcid), zone)
+    (request_remove_second(&mut zone, name, dhcid, family), zone)
 }
 
 /// A name's owner (none if static) and its two address sets.
@@ -617,8 +621,9 @@ mod tests {
         let first = |zone: &mut Zone, dhcid: &Dhcid, family, last| {
             request_remove_first(zone, &name(0), dhcid, family, &address(last)).unwrap()
         };
-        let second =
-            |zone: &mut Zone, dhcid: &Dhcid| request_remove_second(zone, &name(0), dhcid).unwrap();
+        let second = |zone: &mut Zone, dhcid: &Dhcid| {
+            request_remove_second(zone, &name(0), dhcid, 4).unwrap()
+        };
         assert_eq!(first(&mut z, &Y, 4, 1), FirstAnswer::NotOurs);
         assert_eq!(first(&mut z, &X, 4, 7), FirstAnswer::Passed);
         assert!(same(&z, &zone(&[held(0, X, &[1], &[5])])));
@@ -642,7 +647,7 @@ mod tests {
         let (first, z) =
             request_remove_first_by_value(zone(&[fixed]), &name(0), &X, 4, &address(1));
         assert_eq!(first, Ok(FirstAnswer::NotOurs));
-        let (second, z) = request_remove_second_by_value(z, &name(0), &X);
+        let (second, z) = request_remove_second_by_value(z, &name(0), &X, 6);
         assert_eq!(second, Ok(SecondAnswer::Kept));
         assert!(same(&z, &zone(&[fixed])));
     }
@@ -675,12 +680,13 @@ mod tests {
             );
             let first = request_remove_first(zone, &cut, &X, family, &address(1));
             assert_eq!(first, Err(refusal));
+            let second = request_remove_second(zone, &cut, &X, family);
+            assert_eq!(second, Err(refusal));
         }
         assert_eq!(request_b(&mut good, &cut, &X, 4, &address(1), 3), Err(18));
         assert_eq!(request_a(&mut good, &cut, &X, 4, &address(1)), Err(11));
         assert_eq!(request_b(&mut good, &cut, &X, 4, &address(1), 2), Err(11));
-        assert_eq!(request_remove_second(&mut good, &cut, &X), Err(11));
-        assert_eq!(request_remove_second(&mut bad, &cut, &X), Err(17));
+        assert_eq!(request_remove_second(&mut good, &cut, &X, 6), Err(11));
         assert!(same(&good, &Zone::EMPTY));
     }
 }

@@ -1,11 +1,16 @@
 //! Compares the product's name option calls with the second program.
 
-mod common;
-mod product;
+mod common {
+    pub mod names;
+    pub mod random;
+}
+mod product {
+    pub mod name_option;
+}
 
 use common::names;
 use common::random::{fresh_seed, Random, FIXED_SEED};
-use product::word;
+use product::name_option::word;
 use second::name_option::{answer, flag_decision, shape, Shape};
 
 /// Options compared by one run, at the least.
@@ -129,7 +134,7 @@ impl Run {
         let expected = answer(value, suffix, s != 0, n != 0, reply);
         let flags = if expected.is_ok() { reply[0] } else { 0 };
         let [value, suffix, reply] = lend(&mut self.theirs, case);
-        let got = product::name_option_answer(value, suffix, s, n, reply);
+        let got = product::name_option::name_option_answer(value, suffix, s, n, reply);
         let same = got == word(expected.map(|octets| octets as u64));
         if !same || self.ours != self.theirs {
             println!("second {expected:?}, product {got:#x}, {case:02x?}");
@@ -344,7 +349,7 @@ fn every_flag_decision_is_the_same() {
     for flags in 0..=255 {
         for (s, n) in honours.iter().flat_map(|&s| honours.map(|n| (s, n))) {
             let expected = word(flag_decision(flags, s != 0, n != 0));
-            let got = product::flag_decision(flags, s, n);
+            let got = product::name_option::flag_decision(flags, s, n);
             assert_eq!(got, expected, "flags {flags}, honours {s} {n}");
         }
     }

@@ -4,13 +4,20 @@ use Rattle.dname.specs.Name.{labelsOf, limited, shapeOf}
 use Rattle.fqdn.specs.Flags.{honoured, flagAnswer}
 use Rattle.fqdn.specs.Answer.{byName, bySuffix, byFlags, byValue, answerOf, octetsOf, resultOf}
 use Rattle.octets.specs.Compare.{sameOctets}
-use Rattle.octets.specs.Number.{numberAt}
-use Rattle.clock.specs.Clock.{isExpiry, isPast, expiryAfter}
+use Rattle.octets.specs.Number.{numberAt, bigEndian}
+use Rattle.clock.specs.Clock.{isExpiry, isPast, isAhead, expiryAfter, secondsLeft, secondsSince}
 use Rattle.rdnss.specs.Entries.{keep, oneOf, each, distinct, removed, renewed, evicted, roomed, inserted, named, namedAll}
 use Rattle.rdnss.specs.Area.{isWhole, options, isArea, acts, addressesFrom}
 use Rattle.rdnss.specs.ServerList.{packed, isSound, isTimely, optionApplied, serverList}
+use Rattle.lease.specs.Lease.{allZero, hardwareFits, lengthsFit, momentsFit, wellFormed, activeAt, hasClientId, ranksBefore}
+use Rattle.leasepacket.specs.Options as packetOptions
+use Rattle.leasepacket.specs.Options.{values, checked}
+use Rattle.leasepacket.specs.Query.{anySet, hardware, hardwareSet, keyed, relayed, typed, asking}
+use Rattle.leasetable.specs.Table.{risesFrom, tableFits, those, placed, ranked}
+use Rattle.leasereply.specs.Reply.{fixed, ofLease, flat, otherReply, activeReply}
+use Rattle.leasequery.specs.Answer.{hasKey, byAddressOf, byClientOf, answerBy, askedOf, answer}
 use Rattle.cases.specs.Cases.{Holds, All, cases}
 
 pub cases-hold : All cases
-unfolding All Holds cases labelsOf limited shapeOf honoured flagAnswer byName bySuffix byFlags byValue answerOf octetsOf resultOf sameOctets numberAt isExpiry isPast expiryAfter keep oneOf each distinct removed renewed evicted roomed inserted named namedAll isWhole options isArea acts addressesFrom packed isSound isTimely optionApplied serverList
-cases-hold = (refl, (refl, (refl, (refl, (refl, (refl, (refl, ((refl, refl), ((refl, refl), ((refl, refl), (refl, (refl, (refl, (refl, (refl, tt)))))))))))))))
+unfolding All Holds cases labelsOf limited shapeOf honoured flagAnswer byName bySuffix byFlags byValue answerOf octetsOf resultOf sameOctets numberAt isExpiry isPast expiryAfter keep oneOf each distinct removed renewed evicted roomed inserted named namedAll isWhole options isArea acts addressesFrom packed isSound isTimely optionApplied serverList bigEndian isAhead secondsLeft secondsSince allZero hardwareFits lengthsFit momentsFit wellFormed activeAt hasClientId ranksBefore packetOptions.options values checked anySet hardware hardwareSet keyed relayed typed asking risesFrom tableFits those placed ranked fixed ofLease flat otherReply activeReply hasKey byAddressOf byClientOf answerBy askedOf answer
+cases-hold = (refl, (refl, (refl, (refl, (refl, (refl, (refl, ((refl, refl), ((refl, refl), ((refl, refl), (refl, (refl, (refl, (refl, (refl, ((refl, refl), tt))))))))))))))))

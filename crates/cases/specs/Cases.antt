@@ -6,6 +6,9 @@ use lib.ListN.{replicate}
 use Rattle.clock.specs.Clock.{moment}
 use Rattle.fqdn.specs.Flags.{refusal, flagAnswer}
 use Rattle.fqdn.specs.Answer.{answerOf, octetsOf, resultOf}
+use Rattle.octets.specs.Number.{numberAt}
+use Rattle.lease.specs.declared.Lease.{Lease}
+use Rattle.leasequery.specs.Answer.{answer as queryAnswer, told, written}
 use Rattle.rdnss.specs.ServerList.{packed, answer, serverList}
 use Rattle.rdnss.specs.declared.Server.{Server}
 
@@ -17,12 +20,16 @@ pub data Case : Type 0 where
   option : List ℕ → List ℕ → List ℕ → ℕ → Case
   -- the server list at a moment after an area that comes in then: the servers held before, with the clock of that list, and those held after
   area : ℕ → List Server → ℕ → List ℕ → List Server → Case
+  -- a lease query at a moment over a table, in a buffer of 648 octets: the reply's kind and its ciaddr
+  query : ℕ → List Lease → List ℕ → ℕ → ℕ → Case
 
 unfoldable pub Holds : Case → Type 0
 Holds (flags f s n number) = flagAnswer f s n ≡ number
 Holds (option value suffix octets number) =
     (octetsOf (answerOf value suffix 0 0 256) value suffix ≡ octets) × (resultOf (answerOf value suffix 0 0 256) octets ≡ number)
 Holds (area last before now octets after) = serverList (packed (moment last) before) (moment now) octets ≡ answer 0 (packed (moment now) after)
+Holds (query now table packet kind address) =
+    (told (queryAnswer (moment now) table 0 packet 648) .kind ≡ kind) × (numberAt 4 (written (queryAnswer (moment now) table 0 packet 648)) 12 ≡ address)
 
 unfoldable pub All : List Case → Type 0
 All [] = Unit
@@ -39,6 +46,28 @@ server octet until = record { address = record { octets = replicate 16 octet }; 
 -- an option of Type 25 with a Length and a Lifetime under 256, and the octets of its addresses
 abbrev servers : ℕ → ℕ → List ℕ → List ℕ
 servers units lifetime octets = 25 ∷ units ∷ 0 ∷ 0 ∷ 0 ∷ 0 ∷ 0 ∷ lifetime ∷ octets
+
+-- the leases of P10: an address, and client id p7, last seen at 50 and leased until 200
+abbrev lease : ℕ → Lease
+lease address =
+    record {
+      last = moment 50;
+      expiry = moment 200;
+      chaddr = replicate 16 0;
+      id = 112 ∷ 55 ∷ replicate 62 0;
+      relay = replicate 64 0;
+      address = address;
+      state = 1;
+      htype = 0;
+      hlen = 0;
+      idlen = 2;
+      relaylen = 0;
+    }
+
+-- the packet of P10: a lease query by client id p7, from the relay 10.0.0.1
+abbrev packet : List ℕ
+packet =
+    (1 ∷ replicate 23 0) ++ (10 ∷ 0 ∷ 0 ∷ 1 ∷ replicate 208 0) ++ (99 ∷ 130 ∷ 83 ∷ 99 ∷ 53 ∷ 1 ∷ 10 ∷ 61 ∷ 2 ∷ 112 ∷ 55 ∷ 255 ∷ [])
 
 unfoldable pub cases : List Case
 cases =
@@ -66,4 +95,6 @@ cases =
     ∷ area 0 [] 100 (servers 3 60 (replicate 16 1)) (server 1 160 ∷ [])
     ∷ area 100 (server 1 160 ∷ []) 160 [] (server 1 160 ∷ [])
     ∷ area 100 (server 1 160 ∷ []) 161 [] []
+    -- P10: two active leases with equal transaction moments: the lower address
+    ∷ query 100 (lease 7 ∷ lease 9 ∷ []) packet 13 7
     ∷ []

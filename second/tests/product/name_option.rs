@@ -1,4 +1,4 @@
-//! The product's C interface, as its archive exports it.
+//! The product's name option calls, as its archive exports them.
 //!
 //! A result word carries a refusal number in its upper half, or, with an
 //! upper half of 0, the answer in its lower half.

@@ -1,0 +1,93 @@
+//! The server list call, on small and on the largest areas.
+
+#[path = "../../tests/product/server_list.rs"]
+mod product;
+
+use std::hint::black_box;
+
+use second::server_list::{update, Entry, ServerList};
+use second::NEVER;
+
+use crate::timer::compare;
+
+const NOW: u64 = 1_000;
+
+fn address(last: u8) -> [u8; 16] {
+    let mut address = *b"\x20\x01\x0d\xb8\0\0\0\0\0\0\0\0\0\0\0\0";
+    address[15] = last;
+    address
+}
+
+/// An RDNSS option with these addresses, given by their last octets.
+fn option(lifetime: u32, servers: &[u8]) -> Vec<u8> {
+    let mut octets = vec![25, 1 + 2 * servers.len() as u8, 0, 0];
+    octets.extend(lifetime.to_be_bytes());
+    servers
+        .iter()
+        .for_each(|&last| octets.extend(address(last)));
+    octets
+}
+
+/// The servers 1 to `count`, alternately with an end and without.
+fn list(count: usize) -> ServerList {
+    let mut list = ServerList {
+        count,
+        clock: NOW,
+        ..ServerList::default()
+    };
+    for (entry, last) in list.entries[..count].iter_mut().zip(1..) {
+        *entry = Entry {
+            address: address(last),
+            expiry: if last % 2 == 0 { NEVER } else { NOW + 50 },
+        };
+    }
+    list
+}
+
+fn case(title: &str, count: usize, area: Vec<u8>) {
+    let list = list(count);
+    let given: product::ServerList = (&list).into();
+    let mut lent = area.clone();
+    let mut product = || product::server_list(*black_box(&given), NOW, black_box(&mut lent));
+    let second = || update(black_box(&list), NOW, black_box(&area));
+    let expected = second().expect("a sound list and area");
+    let got = product();
+    assert_eq!((got.refusal, ServerList::from(&got.list)), (0, expected));
+    let title = format!("server list, {title}");
+    compare(&title, product, second);
+}
+
+/// Options of 3 addresses each, up to the largest area that can be sound:
+/// 1,496 octets, as options come in units of 8.
+fn large(servers: impl Fn(u8) -> [u8; 3]) -> Vec<u8> {
+    let mut area: Vec<u8> = (0..26).flat_map(|at| option(60, &servers(at))).collect();
+    area.resize(1_496, 0);
+    for padding in area[1_456..].chunks_mut(8) {
+        padding[..2].copy_from_slice(&[1, 1]);
+    }
+    area
+}
+
+pub fn run() {
+    case("no options, 8 held", 8, vec![]);
+    case("1 address renewed of 4", 4, option(60, &[3]));
+    case("1 address inserted before 4", 4, option(60, &[9]));
+    case(
+        "3 addresses inserted, 3 evicted",
+        8,
+        option(60, &[9, 10, 11]),
+    );
+    case("3 addresses removed of 8", 8, option(0, &[8, 1, 4]));
+    case(
+        "1,496 octets, other options",
+        8,
+        [1, 1, 0, 0, 0, 0, 0, 0].repeat(187),
+    );
+    case(
+        "1,496 octets, 78 addresses renewed",
+        8,
+        large(|_| [1, 5, 8]),
+    );
+    let new = |at: u8| [3 * at + 9, 3 * at + 10, 3 * at + 11];
+    case("1,496 octets, 78 addresses inserted", 8, large(new));
+}

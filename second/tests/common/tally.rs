@@ -1,0 +1,35 @@
+//! Counts what a run came upon, and fails where something was too rare.
+
+pub struct Tally {
+    kinds: &'static [&'static str],
+    counts: Vec<usize>,
+    pub cases: usize,
+}
+
+impl Tally {
+    pub fn new(kinds: &'static [&'static str]) -> Tally {
+        Tally {
+            kinds,
+            counts: vec![0; kinds.len()],
+            cases: 0,
+        }
+    }
+
+    pub fn count(&mut self, kind: &str) {
+        let at = self.kinds.iter().position(|&known| known == kind);
+        let at = at.unwrap_or_else(|| panic!("{kind} is not listed"));
+        self.counts[at] += 1;
+    }
+
+    /// Prints the table and fails where a kind came up less than `each`
+    /// times, or all together less than `cases` times.
+    pub fn report(&self, title: &str, cases: usize, each: usize) {
+        println!("{title}: {} cases", self.cases);
+        for (kind, count) in self.kinds.iter().zip(&self.counts) {
+            println!("  {kind:<36}{count:>9}");
+        }
+        assert!(self.cases >= cases, "too few cases");
+        let rare = self.counts.iter().position(|&count| count < each);
+        assert_eq!(rare.map(|at| self.kinds[at]), None, "a kind is too rare");
+    }
+}

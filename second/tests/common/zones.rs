@@ -1,0 +1,267 @@
+//! Zones and requests: sound ones drawn from a few names, owners and
+//! addresses, and broken ones of every kind.
+
+use second::name_option::{shape, Shape};
+use second::zone::{Address, Dhcid, Entry, Name, Set, Zone, FREE, HELD, PLACES, SET_MAX, STATIC};
+
+use super::names;
+use super::random::Random;
+use super::requests::{Kind, Request};
+
+/// What a chain's zones and requests are made of.
+pub struct Stock {
+    names: Vec<Name>,
+    dhcids: Vec<Dhcid>,
+    /// Addresses of family 4, which differ in their first four octets.
+    fours: Vec<Address>,
+    /// Addresses of family 6, which differ in any octet.
+    sixes: Vec<Address>,
+}
+
+/// A name with anything in the octets past its length.
+fn name_of(random: &mut Random, octets: &[u8]) -> Name {
+    let mut name = Name::EMPTY;
+    random.fill(&mut name.octets);
+    name.octets[..octets.len()].copy_from_slice(octets);
+    name.len = octets.len() as u8;
+    name
+}
+
+/// The same name with other octets past its length.
+fn again(random: &mut Random, name: &Name) -> Name {
+    name_of(random, name.as_slice())
+}
+
+/// Names of which some differ in one octet and some are longer than others.
+fn stock_names(random: &mut Random) -> Vec<Name> {
+    let mut made = vec![names::some_full(random)];
+    while made.len() < 5 {
+        let mut near = made[random.below(made.len())].clone();
+        match random.below(4) {
+            // One octet of the first or the last label differs.
+            0 => {
+                let last = near.len() - 2;
+                near[random.pick(&[1, last])] ^= random.pick(&[1, 0x20, 0x80]);
+            }
+            1 if near.len() < 250 => near = [&[1, b'x'], &near[..]].concat(),
+            2 => near = names::full(random, 255),
+            _ => near = names::some_full(random),
+        }
+        if !made.contains(&near) {
+            made.push(near);
+        }
+    }
+    made.iter().map(|name| name_of(random, name)).collect()
+}
+
+/// Three owners that differ in one octet each.
+fn stock_dhcids(random: &mut Random) -> Vec<Dhcid> {
+    let mut first = [0; 35];
+    random.fill(&mut first);
+    let (mut second, mut third) = (first, first);
+    second[34] ^= 1 << random.below(8);
+    third[random.below(34)] ^= 1 << random.below(8);
+    vec![first, second, third]
+}
+
+/// An address and others that differ from it in one bit each, within their
+/// first `width` octets.
+fn stock_addresses(random: &mut Random, base: Address, width: usize) -> Vec<Address> {
+    let mut addresses = vec![base];
+    for bit in 0..6 {
+        let mut address = base;
+        address[random.below(width)] ^= 1 << bit;
+        addresses.push(address);
+    }
+    addresses
+}
+
+impl Stock {
+    pub fn new(random: &mut Random) -> Stock {
+        let mut base = [0; 16];
+        random.fill(&mut base);
+        Stock {
+            names: stock_names(random),
+            dhcids: stock_dhcids(random),
+            fours: stock_addresses(random, base, 4),
+            sixes: stock_addresses(random, base, 16),
+        }
+    }
+
+    /// A set of `count` of the addresses, with anything past the count.
+    fn set<const W: usize>(&self, random: &mut Random, count: usize) -> Set<W> {
+        let mut set = Set::EMPTY;
+        let stock = if W == 4 { &self.fours } else { &self.sixes };
+        let first = random.below(stock.len());
+        for (at, item) in set.items.iter_mut().enumerate() {
+            let address = stock[(first + at) % stock.len()];
+            item.copy_from_slice(&address[..W]);
+        }
+        if count < SET_MAX && random.one_in(2) {
+            set.items[SET_MAX - 1] = set.items[0];
+        }
+        set.count = count as u8;
+        set
+    }
+
+    fn entry(&self, random: &mut Random, name: Name) -> Entry {
+        let counts = [0, 0, 0, 0, 1, 1, 2, 4, 4, 4];
+        let (fours, sixes) = (random.pick(&counts), random.pick(&counts));
+        let dhcid = random.below(self.dhcids.len());
+        Entry {
+            kind: random.pick(&[STATIC, HELD, HELD, HELD, HELD, HELD, HELD]),
+            name,
+            dhcid: self.dhcids[random.pick(&[0, 0, 0, dhcid])],
+            v4: self.set(random, fours),
+            v6: self.set(random, sixes),
+        }
+    }
+
+    /// A free place with anything in its other fields.
+    fn free(&self, random: &mut Random) -> Entry {
+        if random.one_in(2) {
+            return Entry::FREE;
+        }
+        let name = random.pick(&self.names);
+        let mut entry = self.entry(random, name);
+        entry.kind = FREE;
+        entry.name.len = random.octet();
+        entry.v4.count = random.octet();
+        entry
+    }
+
+    /// A sound zone of some of the names; at times others fill it up to a
+    /// few free places or none.
+    pub fn zone(&self, random: &mut Random) -> Zone {
+        let mut zone = Zone::EMPTY;
+        let known = random.between(1, self.names.len());
+        let first = random.below(self.names.len());
+        let filled = if random.one_in(3) {
+            random.pick(&[62, 63, 63, 64, 64])
+        } else {
+            random.pick(&[0, 0, 3])
+        };
+        for at in 0..PLACES {
+            let entry = if at < known {
+                let name = again(random, &self.names[(first + at) % self.names.len()]);
+                self.entry(random, name)
+            } else if at < filled {
+                let name = name_of(random, &[3, b'f', b'0' + at as u8, 1, 0]);
+                self.entry(random, name)
+            } else {
+                self.free(random)
+            };
+            zone.entries[at] = entry;
+        }
+        shuffle(random, &mut zone);
+        zone
+    }
+
+    /// A sound request.
+    pub fn request(&self, random: &mut Random) -> Request {
+        let name = random.pick(&self.names);
+        let family = random.pick(&[4, 6]);
+        let mut address = random.pick(if family == 4 {
+            &self.fours
+        } else {
+            &self.sixes
+        });
+        if family == 4 {
+            // The octets past four are not read.
+            random.fill(&mut address[4..]);
+        }
+        let dhcid = random.below(self.dhcids.len());
+        Request {
+            kind: random.pick(&[
+                Kind::A,
+                Kind::B,
+                Kind::B,
+                Kind::B,
+                Kind::RemoveFirst,
+                Kind::RemoveFirst,
+                Kind::RemoveSecond,
+                Kind::RemoveSecond,
+            ]),
+            name: again(random, &name),
+            dhcid: self.dhcids[random.pick(&[0, 0, 0, 0, dhcid])],
+            family,
+            address,
+            policy: random.pick(&[0, 0, 0, 0, 1, 2]),
+        }
+    }
+
+    /// Breaks a zone's form; the way it was done.
+    pub fn break_zone(&self, random: &mut Random, zone: &mut Zone) -> &'static str {
+        let inside = random.below(PLACES);
+        let at = random.pick(&[0, inside, PLACES - 1]);
+        let name = name_of(random, &[2, b'b', b'b', 0]);
+        let entry = &mut zone.entries[at];
+        if entry.kind == FREE {
+            *entry = self.entry(random, name);
+        }
+        match random.below(9) {
+            0 => {
+                entry.kind = random.pick(&[3, 4, 128, 255]);
+                "17: kind"
+            }
+            1 => {
+                entry.name = no_full_name(random);
+                "17: name not full"
+            }
+            2 => {
+                entry.v4.count = random.pick(&[5, 6, 128, 255]);
+                "17: fifth address of family 4"
+            }
+            3 => {
+                entry.v6.count = random.pick(&[5, 6, 128, 255]);
+                "17: fifth address of family 6"
+            }
+            4 => {
+                double(random, &mut entry.v4);
+                "17: address twice, family 4"
+            }
+            5 => {
+                double(random, &mut entry.v6);
+                "17: address twice, family 6"
+            }
+            _ => {
+                let copied = again(random, &entry.name);
+                let other = (at + random.between(1, PLACES - 1)) % PLACES;
+                zone.entries[other] = self.entry(random, copied);
+                "17: name twice"
+            }
+        }
+    }
+}
+
+/// Makes two counted addresses of a set equal.
+fn double<const W: usize>(random: &mut Random, set: &mut Set<W>) {
+    set.count = random.between(2, SET_MAX) as u8;
+    let one = random.below(usize::from(set.count));
+    let span = random.between(1, usize::from(set.count) - 1);
+    set.items[one] = set.items[(one + span) % usize::from(set.count)];
+}
+
+/// A name that is partial, malformed or empty.
+pub fn no_full_name(random: &mut Random) -> Name {
+    loop {
+        let octets = match random.below(6) {
+            0 => random
+                .pick(&[&[][..], &[0], &[64, 0], &[1, 7, 0, 0]])
+                .to_vec(),
+            1 => names::some_partial(random),
+            2 => names::some_octets(random),
+            _ => names::some_faulty(random),
+        };
+        if octets.len() <= 255 && shape(&octets) != Shape::Full {
+            return name_of(random, &octets);
+        }
+    }
+}
+
+/// Puts the entries in any order.
+fn shuffle(random: &mut Random, zone: &mut Zone) {
+    for last in (1..PLACES).rev() {
+        zone.entries.swap(last, random.between(0, last));
+    }
+}

@@ -1,0 +1,338 @@
+//! Compares the product's zone requests with the second program, and with
+//! what a real BIND answered.
+
+mod common {
+    pub mod bind;
+    pub mod faults;
+    pub mod names;
+    pub mod random;
+    pub mod requests;
+    pub mod tally;
+    pub mod zones;
+}
+mod product {
+    pub mod zone;
+}
+
+use common::bind;
+use common::faults::{first, has_another, number};
+use common::random::{fresh_seed, Random, FIXED_SEED};
+use common::requests::{self, Kind, Reply, Request};
+use common::tally::Tally;
+use common::zones::{no_full_name, Stock};
+use second::zone::{as_set, check, Entry, Zone, FREE, HELD, PLACES, STATIC};
+
+/// Requests compared by one run, at the least.
+const REQUESTS: usize = 200_000;
+/// Cases of each kind, at the least.
+const EACH: usize = 500;
+
+/// Refusals in the order in which they are given.
+const ORDER: [u8; 3] = [17, 18, 11];
+
+const KINDS: &[&str] = &[
+    "17: kind",
+    "17: name not full",
+    "17: fifth address of family 4",
+    "17: fifth address of family 6",
+    "17: address twice, family 4",
+    "17: address twice, family 6",
+    "17: name twice",
+    "18: family",
+    "18: policy",
+    "11: name",
+    "17 ahead of another",
+    "18 ahead of 11",
+    "A: added, family 4",
+    "A: added, family 6",
+    "A: the 64th name",
+    "A: YXDOMAIN",
+    "A: YXDOMAIN, full zone",
+    "A: no room",
+    "B: NXDOMAIN",
+    "B: NXRRSET, static",
+    "B: NXRRSET, another owner",
+    "B: no room, family 4",
+    "B: no room, family 6",
+    "B: policy 0, added",
+    "B: policy 0, present",
+    "B: policy 1, added",
+    "B: policy 1, present",
+    "B: policy 2, added",
+    "B: policy 2, present",
+    "B: policy 1 or 2, four held before",
+    "first remove: deleted, family 4",
+    "first remove: deleted, family 6",
+    "first remove: no such address",
+    "first remove: not ours, absent",
+    "first remove: not ours, static",
+    "first remove: not ours, another owner",
+    "second remove: gone",
+    "second remove: kept, absent",
+    "second remove: kept, static",
+    "second remove: kept, another owner",
+    "second remove: kept, family 4 only",
+    "second remove: kept, family 6 only",
+    "second remove: kept, both families",
+];
+
+/// A request and the faults planted in it and its zone.
+struct Case {
+    request: Request,
+    faults: Vec<&'static str>,
+}
+
+/// A run from one seed: what it drew and what it counted.
+struct Run {
+    seed: u64,
+    random: Random,
+    tally: Tally,
+}
+
+impl Run {
+    fn new(seed: u64) -> Run {
+        println!("seed {seed} (JESPURLA_SEED={seed} repeats it as the fresh one)");
+        Run {
+            seed,
+            random: Random::new(seed),
+            tally: Tally::new(KINDS),
+        }
+    }
+
+    /// Runs both programs on one request. A refused zone comes back octet
+    /// for octet, another one is the same and of good form. The zone for the
+    /// next request is the product's.
+    fn compare(&mut self, zone: &Zone, case: &Case) -> Zone {
+        let request = &case.request;
+        let mut next = zone.clone();
+        let expected = requests::send(&mut next, request);
+        let given = product::zone::Zone::from(zone);
+        let got = product::zone::send(&given, request);
+        let left = Zone::from(&got.zone);
+        let same = match expected {
+            Err(refusal) => {
+                (got.refusal, got.answer) == (u32::from(refusal), 0) && got.zone == given
+            }
+            Ok(reply) => {
+                (got.refusal, product::zone::reply(request.kind, got.answer)) == (0, Some(reply))
+                    && check(&left) == Ok(())
+                    && same_zone(&left, &next)
+            }
+        };
+        let checked = product::zone::check(&given, request);
+        if !same || checked != got.refusal {
+            let (refusal, answer) = (got.refusal, got.answer);
+            println!("second {expected:?}, product {refusal} {answer}, check {checked}");
+            println!("{request:02x?} on {:02x?}", as_set(zone));
+            panic!("the programs differ, seed {}", self.seed);
+        }
+        self.count(zone, case, expected);
+        left
+    }
+
+    fn count(&mut self, zone: &Zone, case: &Case, expected: Result<Reply, u8>) {
+        self.tally.cases += 1;
+        let fault = first(&ORDER, &case.faults);
+        assert_eq!(fault.map(number), expected.err(), "{:?}", case.faults);
+        match (fault, expected) {
+            (Some(fault), _) => count_refusal(&mut self.tally, &case.faults, fault),
+            (None, Ok(reply)) => count_answer(&mut self.tally, zone, &case.request, reply),
+            (None, Err(_)) => unreachable!("a refusal has a fault"),
+        }
+    }
+
+    /// A request of the stock's, at times with faults.
+    fn case(&mut self, stock: &Stock) -> Case {
+        let mut case = Case {
+            request: stock.request(&mut self.random),
+            faults: Vec::new(),
+        };
+        if self.random.one_in(10) {
+            self.plant_number(&mut case);
+        }
+        if self.random.one_in(10) {
+            case.request.name = no_full_name(&mut self.random);
+            case.faults.push("11: name");
+        }
+        case
+    }
+
+    /// A family or policy that isn't listed, where the request reads it.
+    fn plant_number(&mut self, case: &mut Case) {
+        let request = &mut case.request;
+        if request.kind == Kind::B && self.random.one_in(2) {
+            request.policy = self.random.pick(&[3, 4, 128, 255]);
+            case.faults.push("18: policy");
+        } else {
+            request.family = self.random.pick(&[0, 1, 2, 3, 5, 7, 46, 255]);
+            case.faults.push("18: family");
+        }
+    }
+
+    /// Requests of which each gets the zone that the one before it left, and
+    /// at last a few on a broken zone.
+    fn chain(&mut self) {
+        let stock = Stock::new(&mut self.random);
+        let mut zone = stock.zone(&mut self.random);
+        for _ in 0..self.random.between(5, 40) {
+            let case = self.case(&stock);
+            zone = self.compare(&zone, &case);
+        }
+        let fault = stock.break_zone(&mut self.random, &mut zone);
+        for _ in 0..3 {
+            let mut case = self.case(&stock);
+            case.faults.push(fault);
+            zone = self.compare(&zone, &case);
+        }
+    }
+
+    fn whole(mut self) {
+        while self.tally.cases < REQUESTS {
+            self.chain();
+        }
+        let title = format!("seed {}, zone requests", self.seed);
+        self.tally.report(&title, REQUESTS, EACH);
+    }
+}
+
+/// Whether two zones are the same; where every place agrees they are.
+fn same_zone(left: &Zone, right: &Zone) -> bool {
+    let free = |entry: &Entry| entry.kind == FREE;
+    let alike = |left: &Entry, right: &Entry| {
+        let sets =
+            left.v4.as_slice() == right.v4.as_slice() && left.v6.as_slice() == right.v6.as_slice();
+        left.kind == right.kind && left.name == right.name && left.dhcid == right.dhcid && sets
+    };
+    let mut places = left.entries.iter().zip(&right.entries);
+    places.all(|(left, right)| free(left) && free(right) || alike(left, right))
+        || as_set(left) == as_set(right)
+}
+
+fn count_refusal(tally: &mut Tally, faults: &[&str], fault: &str) {
+    tally.count(fault);
+    let several = has_another(faults, fault);
+    match number(fault) {
+        17 if several => tally.count("17 ahead of another"),
+        18 if several => tally.count("18 ahead of 11"),
+        _ => {}
+    }
+}
+
+fn entry_of<'a>(zone: &'a Zone, request: &Request) -> Option<&'a Entry> {
+    let named = |entry: &&Entry| entry.kind != FREE && entry.name == request.name;
+    zone.entries.iter().find(named)
+}
+
+/// Whether an entry has the request's address, and how many of its family.
+fn family_of(entry: &Entry, request: &Request) -> (bool, usize) {
+    if request.family == 4 {
+        let held = entry.v4.as_slice();
+        let has = held.iter().any(|item| *item == request.address[..4]);
+        return (has, held.len());
+    }
+    let held = entry.v6.as_slice();
+    (held.contains(&request.address), held.len())
+}
+
+fn count_answer(tally: &mut Tally, zone: &Zone, request: &Request, reply: Reply) {
+    match request.kind {
+        Kind::A => count_a(tally, zone, request, reply),
+        Kind::B => count_b(tally, zone, request, reply),
+        Kind::RemoveFirst => count_first(tally, zone, request),
+        Kind::RemoveSecond => count_second(tally, zone, request),
+    }
+}
+
+fn count_a(tally: &mut Tally, zone: &Zone, request: &Request, reply: Reply) {
+    let held = zone.entries.iter().filter(|entry| entry.kind != FREE);
+    let held = held.count();
+    match reply {
+        Reply::Success => {
+            tally.count(&format!("A: added, family {}", request.family));
+            if held == PLACES - 1 {
+                tally.count("A: the 64th name");
+            }
+        }
+        Reply::NoRoom => tally.count("A: no room"),
+        _ if held == PLACES => tally.count("A: YXDOMAIN, full zone"),
+        _ => tally.count("A: YXDOMAIN"),
+    }
+}
+
+fn count_b(tally: &mut Tally, zone: &Zone, request: &Request, reply: Reply) {
+    let Some(entry) = entry_of(zone, request) else {
+        return tally.count("B: NXDOMAIN");
+    };
+    let (present, count) = family_of(entry, request);
+    let (policy, family) = (request.policy, request.family);
+    match (reply, present) {
+        (Reply::NxRrset, _) if entry.kind == STATIC => tally.count("B: NXRRSET, static"),
+        (Reply::NxRrset, _) => tally.count("B: NXRRSET, another owner"),
+        (Reply::NoRoom, _) => tally.count(&format!("B: no room, family {family}")),
+        (_, true) => tally.count(&format!("B: policy {policy}, present")),
+        (_, false) => tally.count(&format!("B: policy {policy}, added")),
+    }
+    if reply == Reply::Success && policy > 0 && count == 4 {
+        tally.count("B: policy 1 or 2, four held before");
+    }
+}
+
+/// Why a remove is not for this name, if it isn't.
+fn not_ours(entry: Option<&Entry>, request: &Request) -> Option<&'static str> {
+    match entry {
+        None => Some("absent"),
+        Some(entry) if entry.kind == STATIC => Some("static"),
+        Some(entry) if entry.kind == HELD && entry.dhcid == request.dhcid => None,
+        Some(_) => Some("another owner"),
+    }
+}
+
+fn count_first(tally: &mut Tally, zone: &Zone, request: &Request) {
+    let entry = entry_of(zone, request);
+    if let Some(reason) = not_ours(entry, request) {
+        return tally.count(&format!("first remove: not ours, {reason}"));
+    }
+    let (present, _) = family_of(entry.expect("held"), request);
+    if present {
+        tally.count(&format!("first remove: deleted, family {}", request.family));
+    } else {
+        tally.count("first remove: no such address");
+    }
+}
+
+fn count_second(tally: &mut Tally, zone: &Zone, request: &Request) {
+    let entry = entry_of(zone, request);
+    if let Some(reason) = not_ours(entry, request) {
+        return tally.count(&format!("second remove: kept, {reason}"));
+    }
+    let entry = entry.expect("held");
+    tally.count(match (entry.v4.count, entry.v6.count) {
+        (0, 0) => "second remove: gone",
+        (_, 0) => "second remove: kept, family 4 only",
+        (0, _) => "second remove: kept, family 6 only",
+        _ => "second remove: kept, both families",
+    });
+}
+
+#[test]
+fn requests_from_the_fixed_seed_are_the_same() {
+    Run::new(FIXED_SEED).whole();
+}
+
+#[test]
+fn requests_from_a_fresh_seed_are_the_same() {
+    Run::new(fresh_seed()).whole();
+}
+
+#[test]
+fn the_product_answers_as_bind_did() {
+    let agreed = bind::replay(|zone, request| {
+        let got = product::zone::send(&(&*zone).into(), request);
+        *zone = (&got.zone).into();
+        match got.refusal {
+            0 => Ok(product::zone::reply(request.kind, got.answer).expect("a listed answer")),
+            refusal => Err(refusal as u8),
+        }
+    });
+    assert_eq!(agreed, bind::ALL);
+}
