@@ -25,9 +25,9 @@ use second::lease_query::{answer, Lease, REPLY_MIN};
 use second::{LATEST_MOMENT, NEVER};
 
 /// Queries compared by one run, at the least.
-const QUERIES: usize = 300_000;
+const QUERIES: usize = 400_000;
 /// Cases of each kind, at the least.
-const EACH: usize = 500;
+const EACH: usize = 1_000;
 /// Octets around every lent part that nobody may touch.
 const GUARD: usize = 16;
 /// The stack of a thread on which the calls must run.

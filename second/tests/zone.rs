@@ -23,9 +23,9 @@ use common::zones::{no_full_name, Stock};
 use second::zone::{as_set, check, Entry, Zone, FREE, HELD, PLACES, STATIC};
 
 /// Requests compared by one run, at the least.
-const REQUESTS: usize = 200_000;
+const REQUESTS: usize = 400_000;
 /// Cases of each kind, at the least.
-const EACH: usize = 500;
+const EACH: usize = 1_000;
 
 /// Refusals in the order in which they are given.
 const ORDER: [u8; 3] = [17, 18, 11];

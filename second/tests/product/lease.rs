@@ -11,6 +11,11 @@ pub struct Moment(pub u64);
 #[repr(C)]
 #[derive(Clone, Copy, PartialEq, Eq, Debug)]
 pub struct Lease {
+    pub last: Moment,
+    pub expiry: Moment,
+    pub chaddr: [u8; 16],
+    pub id: [u8; 64],
+    pub relay: [u8; 64],
     /// As a number, most significant octet first.
     pub address: u32,
     pub state: u8,
@@ -18,27 +23,22 @@ pub struct Lease {
     pub hlen: u8,
     pub idlen: u8,
     pub relaylen: u8,
-    pub chaddr: [u8; 16],
-    pub id: [u8; 64],
-    pub relay: [u8; 64],
-    pub last: Moment,
-    pub expiry: Moment,
 }
 
 impl From<&lease_query::Lease> for Lease {
     fn from(lease: &lease_query::Lease) -> Lease {
         Lease {
+            last: Moment(lease.last_transaction),
+            expiry: Moment(lease.expiry),
+            chaddr: lease.chaddr,
+            id: lease.id,
+            relay: lease.relay,
             address: lease.address,
             state: lease.state,
             htype: lease.htype,
             hlen: lease.hlen,
             idlen: lease.id_len,
             relaylen: lease.relay_len,
-            chaddr: lease.chaddr,
-            id: lease.id,
-            relay: lease.relay,
-            last: Moment(lease.last_transaction),
-            expiry: Moment(lease.expiry),
         }
     }
 }
