@@ -8,6 +8,7 @@ use native.Mathlib.Omega.{arith}
 use lib.Dec.{eqb, leb, ltb}
 use lib.ListN.{length, getD, take}
 use borrow.Author.Tests.{eq-eqb, ne-eqb, leb-true, le-leb}
+use Rattle.octets.specs.Compare.{sameOctets}
 use Rattle.hosts.specs.Count.{Octets, member, distinct}
 use Rattle.hosts.specs.Addresses.{Family, four, six, Addresses, nothing, mark, list4, list6, setOf, sound, joined, without}
 use Rattle.hosts.specs.declared.set4.Set4.{Set4}
@@ -18,7 +19,7 @@ use Rattle.zone.specs.declared.entry.Entry.{Entry}
 use Rattle.zone.specs.declared.entry.Address.{Address}
 use Rattle.zone.specs.declared.entry.Dhcid.{Dhcid}
 use Rattle.zone.specs.declared.name.Name.{Name}
-use Rattle.zone.specs.Zone.{Host, Update, isFamily, with, ownFamily, address, fits, left, newHost}
+use Rattle.zone.specs.Zone.{Host, Update, isFamily, heldBy, with, ownFamily, address, fits, left, newHost}
 use Rattle.zone.specs.Meaning.{nameOf, isFull, listOf, hostOf, inOrder, familyOf, policyOf, addressOf, updateOf}
 use Rattle.zone.specs.Survey.{Kept, Fresh, Joined, About, emptied}
 
@@ -116,6 +117,16 @@ both-empty e p q =
     on : (g : Family) → setOf (listOf e g) ≡ nothing
     on four = set-nothing (list4 (e .v4)) p
     on six = set-nothing (list6 (e .v6)) q
+
+-- ---- whether a DHCID holds the name
+
+pub held-static : (e : Entry) (d : Octets) → e .kind ≡ 1 → heldBy d (hostOf e .owner) ≡ false
+unfolding hostOf heldBy
+held-static e d k = simp (eq-eqb (e .kind) 1 k)
+
+pub held-other : (e : Entry) (d : Octets) → ¬ (e .kind ≡ 1) → heldBy d (hostOf e .owner) ≡ sameOctets (e .dhcid .octets) d
+unfolding hostOf heldBy
+held-other e d k = simp (ne-eqb (e .kind) 1 k)
 
 -- ---- families by their numbers
 
