@@ -89,30 +89,31 @@ module _ (z : Zone) (n : Octets) (family policy : ℕ) where
 
 -- ---- from a survey
 
-formed-is : (z : Zone) (inorder names : Bool) → inorder ≡ allInOrder (z .entries) → names ≡ distinct (keys (z .entries)) → formed z ≡ (inorder && names)
+formed-is : (z : Zone) (inorder names : Bool) → length (z .entries) ≡ 64 → inorder ≡ allInOrder (z .entries) → names ≡ distinct (keys (z .entries))
+    → formed z ≡ (inorder && names)
 unfolding formed
-formed-is z inorder names p q = rw (p, q)
+formed-is z inorder names l p q = rw (eq-eqb (length (z .entries)) 64 l, p, q)
 
-module _ (z : Zone) (n : Octets) (family policy : ℕ) (inorder : Bool) (p : inorder ≡ allInOrder (z .entries)) where
+module _ (z : Zone) (n : Octets) (family policy : ℕ) (inorder : Bool) (l : length (z .entries) ≡ 64) (p : inorder ≡ allInOrder (z .entries)) where
   pub refused-order : inorder ≡ false → 17 ≡ refusalOf z n family policy
-  refused-order o = sym (refusal-form z n family policy (formed-is z inorder (distinct (keys (z .entries))) p refl ∙ rw o))
+  refused-order o = sym (refusal-form z n family policy (formed-is z inorder (distinct (keys (z .entries))) l p refl ∙ rw o))
 
   module _ (names : Bool) (q : names ≡ distinct (keys (z .entries))) where
     pub refused-names : names ≡ false → 17 ≡ refusalOf z n family policy
-    refused-names d = sym (refusal-form z n family policy (formed-is z inorder names p q ∙ rw (d, and-false)))
+    refused-names d = sym (refusal-form z n family policy (formed-is z inorder names l p q ∙ rw (d, and-false)))
 
     module _ (o : inorder ≡ true) (d : names ≡ true) where
       form : formed z ≡ true
-      form = formed-is z inorder names p q ∙ rw (o, d)
+      form = formed-is z inorder names l p q ∙ rw (o, d)
 
       pub refused-number : listed family policy ≡ false → 18 ≡ refusalOf z n family policy
-      refused-number l = sym (refusal-number z n family policy form l)
+      refused-number t = sym (refusal-number z n family policy form t)
 
       pub refused-name : listed family policy ≡ true → isFull n ≡ false → 11 ≡ refusalOf z n family policy
-      refused-name l m = sym (refusal-name z n family policy form l m)
+      refused-name t m = sym (refusal-name z n family policy form t m)
 
       pub refused-nothing : listed family policy ≡ true → isFull n ≡ true → 0 ≡ refusalOf z n family policy
-      refused-nothing l m = sym (refusal-none z n family policy form l m)
+      refused-nothing t m = sym (refusal-none z n family policy form t m)
 
 -- ---- promises
 
@@ -123,7 +124,7 @@ module _ (z : Zone) (n : Octets) (family policy : ℕ) (request : rules.Zone →
   pub promise-refused : (k : ℕ) → k ≡ refusal → ¬ (k ≡ 0) → Promised z refusal (request (zoneOf z)) (record { refusal = k; answer = 0; zone = z })
   promise-refused k e d =
       let m : ¬ (refusal ≡ 0) = λ q. d (e ∙ q) in
-      record { refusal-is = e; answer-is = rw (ne-eqb refusal 0 m); kept = λ q. refl; done = λ q. absurd (m q); formed-again = λ q. absurd (m q) }
+      record { refusalIs = e; answerIs = rw (ne-eqb refusal 0 m); kept = λ q. refl; done = λ q. absurd (m q); formedAgain = λ q. absurd (m q) }
 
   pub promise-done : (s : Survey) (w : Change) (r : Answered) (k : ℕ) → k ≡ refusal → k ≡ 0 → Found z n s → Decides request n s w → Finished z w r
       → Promised z refusal (request (zoneOf z)) r
@@ -132,11 +133,11 @@ module _ (z : Zone) (n : Octets) (family policy : ℕ) (request : rules.Zone →
       let g : formed z ≡ true = not-refused z n family policy e .form in
       let c : Decided z (request (zoneOf z)) w = d .decides z g v in
       record {
-        refusal-is = f .refusal-is ∙ sym e;
-        answer-is = f .answer-is ∙ c .answer-is ∙ sym (rw (eq-eqb refusal 0 e));
+        refusalIs = f .refusalIs ∙ sym e;
+        answerIs = f .answerIs ∙ c .answerIs ∙ sym (rw (eq-eqb refusal 0 e));
         kept = λ q. absurd (q e);
         done = λ q. zone c g (ltb (w .place) 64) refl .0;
-        formed-again = λ q. zone c g (ltb (w .place) 64) refl .1;
+        formedAgain = λ q. zone c g (ltb (w .place) 64) refl .1;
       }
     where
       zone : Decided z (request (zoneOf z)) w → formed z ≡ true → (b : Bool) → ltb (w .place) 64 ≡ b → (zoneOf (r .zone) ≡ request (zoneOf z) .zone) × (formed (r .zone) ≡ true)

@@ -58,7 +58,7 @@ fn refusal(z: Zone, s: Survey, n: Name, family: u8, policy: u8) -> u32
 }
 
 // The one function that writes a place.
-fn finish(z: Zone, w: Change) -> Answered
+fn finish(mut z: Zone, w: Change) -> Answered
     ensures { λ r. ⌜ Finished z w r ⌝ }
 {
     if w.place >= 64 {
@@ -70,12 +70,11 @@ fn finish(z: Zone, w: Change) -> Answered
     }
     let at = w.place;
     let e = w.entry;
-    let mut t = z;
-    t.entries[at] = e;
+    z.entries[at] = e;
     Answered {
         refusal: 0,
         answer: w.answer,
-        zone: t,
+        zone: z,
     }
 }
 

@@ -120,9 +120,9 @@ loop-again-2 c =
         few = omega arith;
         all = w .all;
         room = simp length-set (w .room);
-        printed = print-put es blank (l .i) h (printFrom 0 0 0) (l .prints) (l .used) (k .result .print) true 1 (omega arith) (sym u) (k .ensures .print-is) refl (w .printed);
-        ordered = order-step es blank (l .i) h _ (l .inorder) (k .result .inorder) (c .before .both .result) (k .ensures .order-is) (c .before .both .ensures) (w .ordered);
-        wanted = w .wanted ∙ place-step es blank (l .i) h _ (l .found) (k .result .named) (c .choose .result) (k .ensures .named-is) (c .choose .ensures);
+        printed = print-put es blank (l .i) h (printFrom 0 0 0) (l .prints) (l .used) (k .result .print) true 1 (omega arith) (sym u) (k .ensures .printIs) refl (w .printed);
+        ordered = order-step es blank (l .i) h _ (l .inorder) (k .result .inorder) (c .before .both .result) (k .ensures .orderIs) (c .before .both .ensures) (w .ordered);
+        wanted = w .wanted ∙ place-step es blank (l .i) h _ (l .found) (k .result .named) (c .choose .result) (k .ensures .namedIs) (c .choose .ensures);
         spare = w .spare ∙ free-step es blank (l .i) h (l .free) true (l .free) (sym u) refl;
       },
     )
@@ -154,13 +154,13 @@ returns c =
     let h : length es ≤ l .i = omega arith in
     record {
       places = record {
-        places-are = w .all;
-        order-is = order-end es (l .i) h _ (l .inorder) (w .ordered);
-        found-is = sym (w .wanted ∙ place-end es (l .i) h _ (l .found));
-        free-is = sym (w .spare ∙ place-end es (l .i) h _ (l .free));
-        entry-is = λ d f. ap (λ (m : ℕ). getD es m blank) (c .before .choose2 .ensures ∙ chosen-found (l .found) f) ∙ getD-any es (l .found) blank d (omega arith);
+        placesAre = w .all;
+        orderIs = order-end es (l .i) h _ (l .inorder) (w .ordered);
+        foundIs = sym (w .wanted ∙ place-end es (l .i) h _ (l .found));
+        freeIs = sym (w .spare ∙ place-end es (l .i) h _ (l .free));
+        entryIs = λ d f. ap (λ (m : ℕ). getD es m blank) (c .before .choose2 .ensures ∙ chosen-found (l .found) f) ∙ getD-any es (l .found) blank d (omega arith);
       };
-      distinct-names = λ t. clear-distinct (printFrom 0 0 0) (keys es) (ap repeated (sym (print-end es (l .i) h (printFrom 0 0 0) _ (w .printed))) ∙ sym (c .before .before .repeats .ensures) ∙ not-true _ t);
+      clearNames = λ t. clear-distinct (printFrom 0 0 0) (keys es) (ap repeated (sym (print-end es (l .i) h (printFrom 0 0 0) _ (w .printed))) ∙ sym (c .before .before .repeats .ensures) ∙ not-true _ t);
     }
 
 pub survey-of-spec : {M : Type 1} → statement M
