@@ -1,3 +1,4 @@
 -- The claims, proved.
 pub mod ListLaws
+pub mod OrderLaws
 pub mod Claims
