@@ -2,3 +2,4 @@
 pub mod ListLaws
 pub mod OrderLaws
 pub mod Claims
+pub mod Reaches
