@@ -5,18 +5,21 @@ use mathlib.Core.Bool.{Bool, true, false, cond, not, _&&_}
 use mathlib.Core.List.{List, [], _∷_, map, headD}
 use mathlib.Core.Logic.{_⊎_, inl, inr}
 use native.Mathlib.Omega.{arith}
-use lib.Dec.{ltb, leb}
+use lib.Dec.{ltb, leb, eqb}
 use lib.ListN.{length, getD, take, length-take, length-map}
 use Rattle.clock.specs.declared.Moment.{Moment}
 use Rattle.clock.specs.Clock.{isMoment}
 use Rattle.lease.specs.declared.Lease.{Lease}
-use Rattle.lease.specs.Lease.{noLease, activeAt, hasHardware, hasClientId, rankOf, ranksBefore, wellFormed, lengthsFit}
+use Rattle.lease.specs.Lease.{noLease, activeAt, hasHardware, hasClientId, rankOf, ranksBefore, wellFormed, lengthsFit, momentsFit, hardwareFits}
 use Rattle.leasepacket.specs.Query.{Asked, refused, byAddress, byHardware, byClientId, asking}
-use Rattle.leasetable.specs.Table.{tableFits, those, ranked}
+use Rattle.leasetable.specs.Table.{tableFits, risesFrom, those, ranked}
 use Rattle.leasereply.specs.Reply.{otherReply, activeReply}
 use Rattle.leasequery.specs.Answer.{Outcome, refusal, reply, told, written, hasKey, byAddressOf, byClientOf, leasesOf, answerBy, askedOf, answer}
-use Rattle.leaseclaims.specs.Claims.{Call, ActiveAt, NoneActive, UnknownExactly, Demand2, ByClient, NeverUnassigned, Named, NamesTheBest}
-use Rattle.leaseclaims.proofs.ListLaws.{bcase, those-none, none-those, ranked-length, none-before, StandsAt, head-stands}
+use Rattle.leaseclaims.specs.Claims.{Call, ActiveAt, NoneActive, UnknownExactly, Demand2, ByClient, NeverUnassigned, Named, NamesTheBest, In, given, Listed, ListsThem, Fits}
+use Rattle.leaseclaims.proofs.ListLaws.{bcase, those-none, none-those, ranked-length, none-before, StandsAt, AllStand, those-stand, ranked-stand, head-stands}
+use Rattle.leaseclaims.proofs.OrderLaws.{ranked-ordered, formed-at, in-ranked, stand-in}
+use Rattle.leasereply.proofs.ReplyLaws.{other-short, active-short}
+use borrow.Author.Tests.{leb-true}
 
 -- ---- what was asked, where there is no refusal
 asked-is : (clock : Moment) (t : List Lease) (server : ℕ) (q : List ℕ) (room : ℕ) → told (answer clock t server q room) .refusal ≡ 0 → askedOf clock t q room ≡ asking q
@@ -151,3 +154,94 @@ names-the-best c (inl (htype, hlen, o, a)) e =
 names-the-best c (inr (o, a)) e =
     let d = client-id c o (no-refusal c 13 (omega arith) e) a in
     subst (Named c) (sym a) (named c (byClientId o) (leases c (byClientId o)) refl (ap written d) (sym (ap (λ (w : Outcome). told w .kind) d) ∙ sym (ap (λ x. x .kind) (c .answers)) ∙ e))
+
+-- ---- option 92
+rises : (t : List Lease) → tableFits t ≡ true → risesFrom 0 t ≡ true
+unfolding tableFits
+rises t e = and-right (leb (length t) 256) (risesFrom 0 t) e
+
+table-fits : (c : Call) → c .result .refusal ≡ 0 → tableFits (c .table) ≡ true
+unfolding answer askedOf answerBy
+table-fits c r =
+    let z : told (answer (c .clock) (c .table) (c .server) (c .query) (length (c .buffer))) .refusal ≡ 0 = sym (ap (λ a. a .refusal) (c .answers)) ∙ r in
+    bcase (not (isMoment (c .clock))) (λ e. absurd (let y : _≡_ {A = ℕ} 15 0 = rw e at z in omega arith))
+    (λ e. bcase (tableFits (c .table)) (λ f. f) (λ f. absurd (let y : _≡_ {A = ℕ} 9 0 = rw (e, f) at z in omega arith)))
+
+tells-of : (clock : Moment) (server : ℕ) (q : List ℕ) (l : List Lease) → told (byClientOf clock server q l) .kind ≡ 13 → written (byClientOf clock server q l) ≡ activeReply clock server q (headD l noLease) (given l)
+unfolding byClientOf headD
+tells-of clock server q [] e = absurd (omega (arith, e))
+tells-of clock server q (x ∷ []) e = refl
+tells-of clock server q (x ∷ y ∷ ys) e = refl
+
+module _ (c : Call) (key : Asked) (f : tableFits (c .table) ≡ true) where
+  only-those : (x : Lease) → In x (leases c key) → (i : ℕ) × ActiveAt c (hasKey key) i × (getD (c .table) i noLease ≡ x)
+  only-those x h =
+      let s = stand-in (test c key) (c .table) x (leases c key) (ranked-stand (test c key) (c .table)) h in
+      let y = getD (c .table) (s .0) noLease in
+      let t : test c key y ≡ true = ap (test c key) (s .2) ∙ s .3 in
+      (s .0, record { inside = s .1; active = and-left (activeAt (c .clock) y) (hasKey key y) t; has = and-right (activeAt (c .clock) y) (hasKey key y) t }, s .2)
+
+  listed : answer (c .clock) (c .table) (c .server) (c .query) (length (c .buffer)) ≡ byClientOf (c .clock) (c .server) (c .query) (leases c key) → told (byClientOf (c .clock) (c .server) (c .query) (leases c key)) .kind ≡ 13 → Listed c key
+  listed d k = record {
+    leases = leases c key;
+    ordered = ranked-ordered (test c key) (c .table) (rises (c .table) f);
+    only = only-those;
+    all = λ i a. in-ranked (test c key) (c .table) i (a .inside) (and-both (a .active) (a .has));
+    best = headD (leases c key) noLease;
+    tells = ap written d ∙ tells-of (c .clock) (c .server) (c .query) (leases c key) k;
+  }
+
+pub lists-them : ListsThem
+lists-them c (inl (htype, hlen, o, a)) e =
+    let r = no-refusal c 13 (omega arith) e in
+    let d = client-hardware c htype hlen o r a in
+    subst (Listed c) (sym a) (listed c (byHardware htype hlen o) (table-fits c r) d (sym (ap (λ (w : Outcome). told w .kind) d) ∙ sym (ap (λ x. x .kind) (c .answers)) ∙ e))
+lists-them c (inr (o, a)) e =
+    let r = no-refusal c 13 (omega arith) e in
+    let d = client-id c o r a in
+    subst (Listed c) (sym a) (listed c (byClientId o) (table-fits c r) d (sym (ap (λ (w : Outcome). told w .kind) d) ∙ sym (ap (λ x. x .kind) (c .answers)) ∙ e))
+
+-- ---- every reply fits
+formed-lengths : (x : Lease) → wellFormed x ≡ true → (x .idlen ≤ 64) × (x .relaylen ≤ 64)
+unfolding wellFormed lengthsFit
+formed-lengths x w =
+    let a = leb (x .state) 1 in
+    let b = not (eqb (x .idlen) 1) && leb (x .idlen) 64 && leb (x .relaylen) 64 in
+    let l : b ≡ true = and-right a b (and-left (a && b) (momentsFit (x .last) (x .expiry)) (and-left (a && b && momentsFit (x .last) (x .expiry)) (hardwareFits (x .htype) (x .hlen) (x .chaddr)) w)) in (
+      leb-true (x .idlen) 64 (and-right (not (eqb (x .idlen) 1)) (leb (x .idlen) 64) (and-left (not (eqb (x .idlen) 1) && leb (x .idlen) 64) (leb (x .relaylen) 64) l)),
+      leb-true (x .relaylen) 64 (and-right (not (eqb (x .idlen) 1) && leb (x .idlen) 64) (leb (x .relaylen) 64) l),
+    )
+
+module _ (clock : Moment) (server : ℕ) (q : List ℕ) (t : List Lease) (r : risesFrom 0 t ≡ true) where
+  active-fits : (f : Lease → Bool) (x : Lease) (addresses : List ℕ) → StandsAt f t x → length addresses ≤ 63 → length (activeReply clock server q x addresses) ≤ 648
+  active-fits f x addresses s h =
+      let w : wellFormed x ≡ true = ap wellFormed (sym (s .2)) ∙ formed-at 0 t r (s .0) (s .1) in
+      let l = formed-lengths x w in
+      active-short clock server q x addresses (omega (arith, l .0, length-take (x .idlen) (x .id))) (omega (arith, l .1, length-take (x .relaylen) (x .relay))) h
+
+  client-fits : (f : Lease → Bool) (l : List Lease) → AllStand f t l → told (byClientOf clock server q l) .length ≤ 648
+  unfolding byClientOf
+  client-fits f [] a = other-short 12 server q
+  client-fits f (x ∷ []) a = active-fits f x [] (a .0) (omega arith)
+  client-fits f (x ∷ y ∷ ys) a = active-fits f x (take 63 (map (λ z. z .address) (x ∷ y ∷ ys))) (a .0) (omega (arith, length-take 63 (map (λ z. z .address) (x ∷ y ∷ ys))))
+
+  address-fits : (f : Lease → Bool) (l : List Lease) → AllStand f t l → told (byAddressOf clock server q l) .length ≤ 648
+  unfolding byAddressOf
+  address-fits f [] a = other-short 12 server q
+  address-fits f (x ∷ xs) a = bcase (activeAt clock x) (λ e. rw e (active-fits f x [] (a .0) (omega arith))) (λ e. rw e (other-short 11 server q))
+
+  asked-fits : (key : Asked) → told (answerBy clock server q key t) .length ≤ 648
+  unfolding answerBy
+  asked-fits (refused n) = omega arith
+  asked-fits (byAddress a) = address-fits (hasKey (byAddress a)) (those (hasKey (byAddress a)) t) (those-stand (hasKey (byAddress a)) t)
+  asked-fits (byHardware htype hlen o) = client-fits (λ x. activeAt clock x && hasKey (byHardware htype hlen o) x) (ranked (leasesOf clock server q (byHardware htype hlen o) t)) (ranked-stand (λ x. activeAt clock x && hasKey (byHardware htype hlen o) x) t)
+  asked-fits (byClientId o) = client-fits (λ x. activeAt clock x && hasKey (byClientId o) x) (ranked (leasesOf clock server q (byClientId o) t)) (ranked-stand (λ x. activeAt clock x && hasKey (byClientId o) x) t)
+
+answer-fits : (clock : Moment) (t : List Lease) (server : ℕ) (q : List ℕ) (room : ℕ) → told (answer clock t server q room) .length ≤ 648
+unfolding answer askedOf answerBy
+answer-fits clock t server q room =
+    bcase (not (isMoment clock)) (λ e. rw e (omega arith))
+    (λ e. bcase (tableFits t) (λ f. asked-fits clock server q t (rises t f) (askedOf clock t q room)) (λ f. rw (e, f) (omega arith)))
+
+pub fits : Fits
+fits c = subst (λ n. n ≤ 648) (sym (ap (λ x. x .length) (c .answers))) (answer-fits (c .clock) (c .table) (c .server) (c .query) (length (c .buffer)))

@@ -18,7 +18,7 @@ pub bcase : {A : Type 0} (b : Bool) → (b ≡ true → A) → (b ≡ false → 
 bcase true f g = f refl
 bcase false f g = g refl
 
-true-false : {A : Type 0} {b : Bool} → b ≡ true → b ≡ false → A
+pub true-false : {A : Type 0} {b : Bool} → b ≡ true → b ≡ false → A
 true-false p q = absurd (let z : _≡_ {A = ℕ} 0 1 = cc in omega arith)
 
 -- ---- leases that pass a test
@@ -45,10 +45,10 @@ unfolding ranked
 ranked-length l = folded-length l [] ∙ zero-add (length l)
 
 -- x does not rank before y
-abbrev NotBefore : Rank → Rank → Type 0
+abbrev pub NotBefore : Rank → Rank → Type 0
 NotBefore x y = (x .last .0 ≤ y .last .0) × (x .last .0 ≡ y .last .0 → y .address ≤ x .address)
 
-to-not : (x y : Rank) → ranksBefore x y ≡ false → NotBefore x y
+pub to-not : (x y : Rank) → ranksBefore x y ≡ false → NotBefore x y
 unfolding ranksBefore
 to-not x y e =
     bcase (ltb (y .last .0) (x .last .0)) (λ s. absurd (true-false refl (rw s at e)))
@@ -118,7 +118,7 @@ none-before f t i h w = from-not (rankOf (getD t i noLease)) (head (foldl (λ ys
 abbrev pub StandsAt : (Lease → Bool) → List Lease → Lease → Type 0
 StandsAt f t x = (i : ℕ) × (i < length t) × (getD t i noLease ≡ x) × (f x ≡ true)
 
-abbrev AllStand : (Lease → Bool) → List Lease → List Lease → Type 0
+abbrev pub AllStand : (Lease → Bool) → List Lease → List Lease → Type 0
 AllStand f t [] = Unit {0}
 AllStand f t (x ∷ xs) = StandsAt f t x × AllStand f t xs
 
@@ -135,7 +135,7 @@ shift-stand : (f : Lease → Bool) (y : Lease) (t l : List Lease) → AllStand f
 shift-stand f y t [] p = tt
 shift-stand f y t (x ∷ xs) p = ((suc (p .0 .0), omega (arith, p .0 .1), p .0 .2, p .0 .3), shift-stand f y t xs (p .1))
 
-those-stand : (f : Lease → Bool) (t : List Lease) → AllStand f t (those f t)
+pub those-stand : (f : Lease → Bool) (t : List Lease) → AllStand f t (those f t)
 unfolding those
 those-stand f [] = tt
 those-stand f (x ∷ xs) = bcase (f x) (λ w. rw w ((0, omega arith, refl, w), shift-stand f x xs (those f xs) (those-stand f xs))) (λ w. rw w (shift-stand f x xs (those f xs) (those-stand f xs)))

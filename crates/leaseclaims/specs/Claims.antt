@@ -65,6 +65,38 @@ pub record Named (c : Call) (key : Asked) : Type 0 where
 abbrev pub NamesTheBest : Type 0
 NamesTheBest = (c : Call) → ByClient (asking (c .query)) → c .result .kind ≡ 13 → Named c (asking (c .query))
 
+-- A lease stands in a list.
+abbrev pub In : Lease → List Lease → Type 0
+In x [] = ⊥
+In x (y ∷ ys) = (x ≡ y) ⊎ In x ys
+
+-- A list is in order if each lease ranks before all that stand behind it; so none stands there twice.
+abbrev pub Behind : Lease → List Lease → Type 0
+Behind x [] = Unit {0}
+Behind x (y ∷ ys) = (ranksBefore (rankOf x) (rankOf y) ≡ true) × Behind x ys
+
+abbrev pub Ordered : List Lease → Type 0
+Ordered [] = Unit {0}
+Ordered (x ∷ xs) = Behind x xs × Ordered xs
+
+-- The addresses that option 92 gives of a client's leases: none where there is but one lease, else the first 63.
+abbrev pub given : List Lease → List ℕ
+given [] = []
+given (x ∷ []) = []
+given (x ∷ y ∷ ys) = take 63 (map (λ z. z .address) (x ∷ y ∷ ys))
+
+-- The addresses in option 92 are exactly those of the active leases that have the key, in rank order, each once, the first 63 of them.
+pub record Listed (c : Call) (key : Asked) : Type 0 where
+  pub leases : List Lease
+  pub ordered : Ordered leases
+  pub only : (x : Lease) → In x leases → (i : ℕ) × ActiveAt c (hasKey key) i × (getD (c .table) i noLease ≡ x)
+  pub all : (i : ℕ) → ActiveAt c (hasKey key) i → In (getD (c .table) i noLease) leases
+  pub best : Lease
+  pub tells : written (answer (c .clock) (c .table) (c .server) (c .query) (length (c .buffer))) ≡ activeReply (c .clock) (c .server) (c .query) best (given leases)
+
+abbrev pub ListsThem : Type 0
+ListsThem = (c : Call) → ByClient (asking (c .query)) → c .result .kind ≡ 13 → Listed c (asking (c .query))
+
 -- Every reply fits in 648 octets.
 abbrev pub Fits : Type 0
 Fits = (c : Call) → c .result .length ≤ 648
