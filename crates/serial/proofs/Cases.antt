@@ -1,3 +1,4 @@
+-- P12 and its like as lists of steps: calls made of the definitions themselves, and a zone where X holds a name. Assumes nothing.
 use mathlib.Core.Path.{_≡_, refl, sym, ap, subst}
 use mathlib.Core.Bool.{Bool, true, false, cond, _||_}
 use mathlib.Core.List.{[], _∷_}

@@ -1,4 +1,4 @@
--- ---- an add's count
+-- Demand 3, for any calls that keep the promises: the order is carried along the list of steps, with the counts beside it. Assumes nothing.
 use mathlib.Core.Path.{_≡_, refl, sym, _∙_, ap, subst, fun-ext}
 use mathlib.Core.Bool.{Bool, true, false, cond, _&&_}
 use mathlib.Core.List.{List, [], _∷_, map}
@@ -21,6 +21,8 @@ use Rattle.serial.proofs.ListLaws.{set-same, set-other}
 use Rattle.serial.proofs.RequestLaws.{form-step, whole, whole-sends, outcome, quiet}
 use Rattle.serial.proofs.OrderLaws.{serial, Agree, form-serial, times-in}
 use Rattle.serial.proofs.Placing.{Ended, Fits, stand, stand-same, stand-other, ended≢2, At, Inv, Real, move, shown, emptied}
+
+-- ---- an add's count
 
 abbrev pub Sent : Stage → ℕ → Type 0
 Sent (beforeA n) m = n ≡ m
@@ -99,6 +101,8 @@ or-else a (some b) = b
 no-one : Arguments
 no-one = record { kind = remove; update = record { name = []; dhcid = []; family = four; address = [] }; policy = keepOthers }
 
+-- ---- the jobs by number
+
 module _ (C : Calls) (js : List Arguments) where
   J : ℕ → Arguments
   J i = or-else no-one (getElem? js i)
@@ -171,6 +175,8 @@ begins C P (j ∷ js) (k ∷ ks) (one-more m f) = go (begins C P js ks f)
             subst (λ (u : C .J). C .jobOf u .stage ≡ fresh (C .jobOf u .arguments)) q
             (ap (λ (u : Job). u .stage) is ∙ ap (λ (u : Job). fresh (u .arguments)) (sym is))
         stage (suc i) x e = b .stage i x e
+
+-- ---- along the list
 
 module _ (C : Calls) (P : Promises C) (js : List Arguments) (z₀ : C .Z) (ks₀ : List (C .J)) (g₀ : Form (C .zoneOf z₀)) (b₀ : Begins C js ks₀) where
   abbrev JJ : ℕ → Arguments

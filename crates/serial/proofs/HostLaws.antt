@@ -1,4 +1,4 @@
--- ---- a name held without an address
+-- Bare names: held, and without an address. What the requests make of them. Assumes nothing.
 use mathlib.Core.Path.{_≡_, refl, sym, _∙_, ap, subst, fun-ext}
 use mathlib.Core.Bool.{Bool, true, false, cond, _&&_, and-false}
 use mathlib.Core.Option.{Option, none, some}
@@ -12,6 +12,8 @@ use Rattle.hosts.specs.Addresses.{Family, four, six, Addresses, nothing, one, m
 use Rattle.hosts.proofs.CountLaws.{true≢false, and-left, and-right, same-no, same-dec, counts-le, counts-none, counts-mark}
 use Rattle.zone.specs.Zone.{Host, Zone, there, GoodHost, isFamily, with, Update, Policy, keepOthers, oneOfFamily, onlyThis, heldBy, empty, address, newHost, left, fits}
 use Rattle.zone.proofs.ZoneLaws.{Named, owner-eq, address-own, new-own, good-add, good-new}
+
+-- ---- a name held without an address
 
 -- Held, with no address.
 abbrev pub held : Option Octets → Bool

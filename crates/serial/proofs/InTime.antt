@@ -1,3 +1,4 @@
+-- That demand 3 is not empty: jobs end in time, are not refused, and report six requests at most. Assumes nothing.
 use mathlib.Core.Path.{_≡_, sym, _∙_, ap, subst}
 use mathlib.Core.Bool.{Bool, true, false, cond}
 use mathlib.Core.List.{List, [], _∷_}

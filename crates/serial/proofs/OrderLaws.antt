@@ -1,4 +1,4 @@
--- Orders of whole jobs, put one behind the other.
+-- Orders of whole jobs, put one behind the other. Assumes nothing.
 use mathlib.Core.Path.{_≡_, refl, sym, _∙_}
 use mathlib.Core.Bool.{true}
 use mathlib.Core.List.{List, [], _∷_, _++_}

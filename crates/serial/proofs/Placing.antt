@@ -1,6 +1,6 @@
 -- One step of a job, seen by the order of whole jobs. A job takes its place at the end of the order with the request that decides it:
 -- an add with its last, a remove with its first. But a remove that leaves a held name without address is put off, and in the order the
--- name keeps an address, until the name is deleted or gets an address again: then all that were put off for it take their places.
+-- name keeps an address, until the name is deleted or gets an address again: then all that were put off for it take their places. Assumes nothing.
 use mathlib.Core.Path.{_≡_, refl, sym, _∙_, ap, subst}
 use mathlib.Core.Bool.{Bool, true, false, cond, _&&_}
 use mathlib.Core.List.{List, [], _∷_, _++_}

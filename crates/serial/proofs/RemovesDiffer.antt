@@ -1,5 +1,6 @@
 -- Why demand 3 can't ask that removes get the same answers: a list of steps for which no order of whole jobs gives them. X removes its only
 -- address and adds it again in between, so the remove finds an address and the name is kept; alone, before the add or after it, the remove
+-- finds none, and the name is gone. Assumes nothing.
 use mathlib.Core.Path.{_≡_, refl, sym, _∙_, ap, subst}
 use mathlib.Core.Bool.{true}
 use mathlib.Core.List.{List, [], _∷_}

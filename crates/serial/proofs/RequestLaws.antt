@@ -1,4 +1,4 @@
--- One step, and a whole job, by what stands at the job's name: all that the proofs above this file know of a request.
+-- One step, and a whole job, by what stands at the job's name: all that the proofs above this file know of a request. Assumes nothing.
 use mathlib.Core.Path.{_≡_, refl, sym, ap, subst}
 use mathlib.Core.Bool.{true, false, _&&_}
 use mathlib.Core.Option.{Option, none, some}

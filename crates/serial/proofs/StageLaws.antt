@@ -1,3 +1,4 @@
+-- The counts of fresh jobs: a fresh job's stage can have its count, and a step leads from such a stage to such a stage. Assumes nothing.
 use mathlib.Core.Path.{_≡_, refl, sym, subst}
 use mathlib.Core.Bool.{true, _&&_}
 use mathlib.Core.List.{[], _∷_}
