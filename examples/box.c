@@ -17,6 +17,12 @@ static void print_name(const uint8_t *name, size_t length)
     }
 }
 
+/* A count and what is counted. */
+static void print_count(unsigned long count, const char *what)
+{
+    printf("%lu %s%s", count, what, count == 1 ? "" : what[strlen(what) - 1] == 's' ? "es" : "s");
+}
+
 static void print_flags(uint8_t flags)
 {
     printf("%s%s%s%s", flags == 0 ? "none" : "",
@@ -122,7 +128,9 @@ static void announce(jespurla_server_list_state *list, uint64_t seconds, const c
         return;
     }
     *list = answer.list;
-    printf(": %zu servers\n", list->count);
+    printf(": ");
+    print_count(list->count, "server");
+    puts("");
     for (size_t i = 0; i < list->count; i++) {
         printf("  ");
         print_address6(list->entries[i].address);
@@ -332,7 +340,9 @@ static void print_zone(const jespurla_zone *zone)
         names++;
         printf("    ");
         print_name(e->name.octets, e->name.length);
-        printf(" held by %c, %d addresses\n", e->dhcid.octets[0], e->v4.count + e->v6.count);
+        printf(" held by %c, ", e->dhcid.octets[0]);
+        print_count((unsigned long)e->v4.count + e->v6.count, "address");
+        puts("");
     }
     if (names == 0)
         puts("    the zone is empty");
@@ -344,8 +354,11 @@ static void step(const char *who, jespurla_zone *zone, jespurla_job *job)
     *zone = stepped.zone;
     *job = stepped.job;
     printf("  %s: %s", who, stage_text(job->stage));
-    if (job->count != 0)
-        printf(" (%u requests sent)", job->count);
+    if (job->count != 0) {
+        printf(" (");
+        print_count(job->count, "request");
+        printf(" sent)");
+    }
     puts("");
     print_zone(zone);
 }
