@@ -3,6 +3,7 @@ use crate::Lease;
 use clock::Moment;
 ghost use mathlib.Core.Path.{_≡_};
 ghost use lib.ListN.{drop};
+ghost use Prim.Native.Nat.{_<_};
 ghost use Rattle.lease.specs.Lease.{allZero, hardwareFits, lengthsFit, momentsFit, wellFormed};
 
 // Whether all octets from a place on are zero. The loop has no early way out, so that it compiles to
@@ -22,12 +23,32 @@ fn is_zero_from(s: &[u8], from: usize) -> bool
     ok
 }
 
+// An octet as a number that can be added to others.
+fn wide(x: u8) -> u32
+    ensures { λ r. ⌜ (r ≡ x) × (r < 256) ⌝ }
+{
+    x as u32
+}
+
+// Whether all octets behind the first six are zero. Six is the usual length, and constant places
+// compile to fewer steps than a loop.
+fn is_zero_from_6(s: [u8; 16]) -> bool
+    ensures { λ r. ⌜ r ≡ allZero (drop 6 s) ⌝ }
+{
+    let a = wide(s[6]) + wide(s[7]) + wide(s[8]) + wide(s[9]) + wide(s[10]);
+    let b = wide(s[11]) + wide(s[12]) + wide(s[13]) + wide(s[14]) + wide(s[15]);
+    a + b == 0
+}
+
 // A hardware address has at most 16 octets, with zeros behind them; one of none has type 0.
 fn does_hardware_fit(htype: u8, hlen: u8, chaddr: [u8; 16]) -> bool
     ensures { λ r. ⌜ r ≡ hardwareFits htype hlen chaddr ⌝ }
 {
     if 16 < hlen {
         return false;
+    }
+    if hlen == 6 {
+        return is_zero_from_6(chaddr);
     }
     if hlen != 0 {
         let n = hlen as usize;
