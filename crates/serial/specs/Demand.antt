@@ -9,7 +9,7 @@ use lib.Dec.{eqb}
 use lib.ListN.{getElem?, set}
 use Rattle.hosts.specs.Count.{Octets}
 use Rattle.zone.specs.Zone.{Host, Zone, Form, empty}
-use Rattle.job.specs.Jobs.{Kind, add, remove, Arguments, End, done, conflict, noRoom, gaveUp, notOurs, gone, kept, Stage, beforeA, beforeB, beforeFirst, beforeSecond, ended, Job, State, fresh, step, Sends, sent}
+use Rattle.job.specs.Jobs.{Kind, add, remove, Arguments, End, done, conflict, noRoom, gaveUp, notOurs, gone, kept, Stage, beforeA, beforeB, beforeFirst, beforeSecond, ended, Job, fresh, step, Sends, sent}
 
 -- The public calls: the zone and the job that a program holds, and what they mean; what a job step returns; and what is known of a call that
 -- has been made. specs/Running.antt gives them for the calls that run.

@@ -1,6 +1,6 @@
 -- The calls that run: demand 3's calls with the structs and the promises of crate job, and the theorem about them.
 use mathlib.Core.Path.{_≡_}
-use mathlib.Core.Bool.{Bool, true}
+use mathlib.Core.Bool.{true}
 use Prim.Native.Nat.{ℕ}
 use lib.ListN.{length}
 use Rattle.zone.specs.declared.name.Name.{Name}
