@@ -13,7 +13,7 @@ use Rattle.job.proofs.JobLaws.{listed-after, possible-before, listed-of, full-o
 use Rattle.serial.specs.Demand.{Promises}
 use Rattle.serial.specs.Running.{NewCall, new-add, new-remove, running, Delivered}
 use Rattle.serial.proofs.StageLaws.{possible-step}
-use Rattle.serial.proofs.Demand.{stronger, demand3}
+use Rattle.serial.proofs.Demand.{stronger, demand3, left-out-idle}
 use Rattle.serial.proofs.InTime.{Taken, ends-in-time, never-refused, six-at-most}
 
 new-job : (j : Arguments) (k : Job) → NewCall j k → jobOf k ≡ record { arguments = j; stage = fresh j }
@@ -73,6 +73,7 @@ pub delivered : Delivered
 delivered = record {
   demand3 = demand3 running kept-promises;
   stronger = stronger running kept-promises;
+  left-out-idle = left-out-idle running kept-promises;
   ends-in-time = ends-in-time running kept-promises;
   never-refused = never-refused running (λ z. formed z ≡ true) Ok taken;
   six-at-most = six-at-most running kept-promises;

@@ -177,6 +177,10 @@ Demand3 C = (s : Story C) → HeldHaveAddress (C .zoneOf (s .first-zone)) → Se
 abbrev pub Stronger : Calls → Type 0
 Stronger C = (s : Story C) → (r : Serializable C s) × AsSeen C s (r .order)
 
+-- As a theorem of its own: an add that ended no room or gave up changed nothing.
+abbrev pub LeftOutIdle : Calls → Type 0
+LeftOutIdle C = (s : Story C) (i : ℕ) (e : End) → getElem? (s .ends) i ≡ some e → verdict e ≡ none → ChangedNothing C (s .steps) i
+
 -- ---- that the claim is not empty
 
 -- The most requests that a job sends.
