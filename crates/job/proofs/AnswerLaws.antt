@@ -1,10 +1,9 @@
 -- Where each answer's number leads a job. Assumes nothing.
 use mathlib.Core.Path.{_≡_, refl, sym, _∙_, ap}
-use mathlib.Core.Bool.{Bool, true, false, cond}
+use mathlib.Core.Bool.{Bool, false, cond}
 use Prim.Native.Nat.{ℕ, suc, _+_}
 use native.Mathlib.Numerals.{add-one}
 use native.Mathlib.Omega.{arith}
-use lib.Dec.{eqb}
 use borrow.Author.Tests.{eq-eqb, ne-eqb}
 use Rattle.zone.specs.Zone.{Answer, success, YXDOMAIN, NXDOMAIN, NXRRSET, noRoom}
 use Rattle.zone.specs.Promise.{numberOf}

@@ -1,13 +1,12 @@
 -- What a struct means after a step, and after a new job call: all that a layer above needs of the structs. Assumes nothing.
-use mathlib.Core.Path.{_≡_, refl, sym, _∙_, ap, subst}
-use mathlib.Core.Bool.{Bool, true, false, cond, _&&_, or-false}
-use mathlib.Core.List.{List, [], _∷_}
+use mathlib.Core.Path.{_≡_, refl, sym, _∙_, ap}
+use mathlib.Core.Bool.{Bool, true, false, cond, _&&_}
 use Prim.Native.Nat.{ℕ, zero, suc}
 use native.Mathlib.Omega.{arith}
-use lib.Dec.{eqb, leb}
-use borrow.Author.Tests.{eq-eqb, ne-eqb}
+use lib.Dec.{eqb}
+use borrow.Author.Tests.{eq-eqb}
 use Rattle.hosts.specs.Count.{Octets}
-use Rattle.hosts.proofs.CountLaws.{true≢false, bool-case, and-left, and-right}
+use Rattle.hosts.proofs.CountLaws.{true≢false, and-left, and-right}
 use Rattle.zone.specs.declared.survey.Zone.{Zone}
 use Rattle.zone.specs.declared.name.Name.{Name}
 use Rattle.zone.specs.declared.entry.Dhcid.{Dhcid}
@@ -18,8 +17,7 @@ use Rattle.zone.specs.Meaning.{nameOf, isFull, listed, policyOf, updateOf, zone
 use Rattle.job.specs.declared.job.Job.{Job}
 use Rattle.job.specs.declared.fresh.NewJob.{NewJob}
 use Rattle.job.specs.declared.step.Stepped.{Stepped}
-use Rattle.job.specs.Jobs as rules
-use Rattle.job.specs.Jobs.{Kind, add, remove, Arguments, Stage, beforeA, beforeB, beforeFirst, beforeSecond, ended, End, done, conflict, gaveUp, notOurs, gone, kept, among, possible, fresh, after, passed, afterFirst, afterSecond, step}
+use Rattle.job.specs.Jobs.{add, remove, Arguments, Stage, beforeA, beforeB, beforeFirst, beforeSecond, ended, End, done, conflict, gaveUp, notOurs, gone, kept, among, possible, after, passed, afterFirst, afterSecond, step}
 use Rattle.job.specs.Meaning.{stageNumber, stageCount, stageOf, stageListed, canHave, isAdd, argumentsOf, jobOf, atStage, numbersListed, freshAdd, freshRemove, blank}
 use Rattle.job.proofs.StageLaws.{not-listed}
 use Rattle.job.specs.Promise.{newRefusal, newJob, stepRefusal, stepOf, StepPromise}

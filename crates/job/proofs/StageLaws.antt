@@ -132,13 +132,23 @@ can-remove (suc (suc (suc (suc (suc (suc (suc (suc (suc (suc (suc (suc (suc (suc
 
 -- ---- a job's numbers
 
-pub numbers-add : (j : Job) → j .stage ≤ 6 → numbersListed j ≡ (listed (j .family) (j .policy) && canHave (j .stage) (j .count))
-unfolding numbersListed isAdd
-numbers-add j h = rw (le-leb (j .stage) 6 h)
+module _ (j : Job) (h : j .stage ≤ 6) where
+  pub add-unlisted : listed (j .family) (j .policy) ≡ false → numbersListed j ≡ false
+  unfolding numbersListed isAdd
+  add-unlisted l = rw (le-leb (j .stage) 6 h, l) refl
 
-pub numbers-remove : (j : Job) → 6 < j .stage → numbersListed j ≡ (listed (j .family) 0 && canHave (j .stage) (j .count))
-unfolding numbersListed isAdd
-numbers-remove j h = rw (lt-leb (j .stage) 6 h)
+  pub add-numbers : listed (j .family) (j .policy) ≡ true → numbersListed j ≡ canHave (j .stage) (j .count)
+  unfolding numbersListed isAdd
+  add-numbers l = rw (le-leb (j .stage) 6 h, l) refl
+
+module _ (j : Job) (h : 6 < j .stage) where
+  pub remove-unlisted : listed (j .family) 0 ≡ false → numbersListed j ≡ false
+  unfolding numbersListed isAdd
+  remove-unlisted l = rw (lt-leb (j .stage) 6 h, l) refl
+
+  pub remove-numbers : listed (j .family) 0 ≡ true → numbersListed j ≡ canHave (j .stage) (j .count)
+  unfolding numbersListed isAdd
+  remove-numbers l = rw (lt-leb (j .stage) 6 h, l) refl
 
 -- ---- the first octets of an array
 

@@ -1,12 +1,12 @@
 -- What a request's promise, the way on from its answer and the job's numbers make of a step. Assumes nothing.
 use mathlib.Core.Path.{_≡_, refl, sym, _∙_, ap, subst}
-use mathlib.Core.Bool.{Bool, true, false, cond, _&&_, and-true}
-use mathlib.Core.List.{List, [], _∷_}
-use Prim.Native.Nat.{ℕ, zero, suc, _≤_, _<_}
+use mathlib.Core.Bool.{Bool, true, false, cond, and-true}
+use mathlib.Core.List.{[], _∷_}
+use Prim.Native.Nat.{ℕ, zero, suc, _<_}
 use native.Mathlib.Omega.{arith}
 use lib.Dec.{eqb, leb}
 use borrow.Author.Tests.{eq-eqb, ne-eqb, lt-leb}
-use Rattle.hosts.proofs.CountLaws.{true≢false, bool-case, and-left, and-right}
+use Rattle.hosts.proofs.CountLaws.{true≢false, and-left, and-right}
 use Rattle.zone.specs.declared.survey.Zone.{Zone}
 use Rattle.zone.specs.declared.request.Answered.{Answered}
 use Rattle.zone.specs.Zone.{Answer, Outcome, requestA, requestB, removeAddress, removeName}
@@ -14,7 +14,7 @@ use Rattle.zone.specs.Meaning.{nameOf, isFull, listed, policyOf, updateOf, zone
 use Rattle.zone.specs.Promise.{refusalOf, numberOf, Promised}
 use Rattle.job.specs.declared.job.Job.{Job}
 use Rattle.job.specs.declared.step.Stepped.{Stepped}
-use Rattle.job.specs.Jobs.{Stage, ended, End, done, conflict, noRoom, gaveUp, notOurs, gone, kept, State, goesOn, among, after, afterFirst, afterSecond, step}
+use Rattle.job.specs.Jobs.{Stage, ended, End, done, conflict, noRoom, gaveUp, notOurs, gone, kept, State, goesOn, after, afterFirst, afterSecond, step}
 use Rattle.job.specs.Meaning.{stageNumber, stageCount, stageOf, canHave, isAdd, argumentsOf, atStage, numbersListed}
 use Rattle.job.specs.Promise.{stepRefusal, stepOf, StepPromise}
 use Rattle.job.specs.Inner.{Leads, Carried, Idle}

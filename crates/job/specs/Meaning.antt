@@ -1,5 +1,5 @@
 -- What the structs of a job mean, and their numbers. Document 01, "Zone, requests and jobs".
-use mathlib.Core.Bool.{Bool, true, false, cond, _&&_}
+use mathlib.Core.Bool.{Bool, cond, _&&_}
 use mathlib.Core.List.{[], _∷_}
 use Prim.Native.Nat.{ℕ}
 use lib.Dec.{eqb, leb}
@@ -7,10 +7,10 @@ use lib.ListN.{replicate}
 use Rattle.zone.specs.declared.name.Name.{Name}
 use Rattle.zone.specs.declared.entry.Dhcid.{Dhcid}
 use Rattle.zone.specs.declared.entry.Address.{Address}
-use Rattle.zone.specs.Meaning.{nameOf, listed, policyOf, updateOf}
+use Rattle.zone.specs.Meaning.{listed, policyOf, updateOf}
 use Rattle.job.specs.declared.job.Job.{Job}
 use Rattle.job.specs.Jobs as rules
-use Rattle.job.specs.Jobs.{Kind, add, remove, Arguments, End, done, conflict, noRoom, gaveUp, notOurs, gone, kept, Stage, beforeA, beforeB, beforeFirst, beforeSecond, ended, among, possible}
+use Rattle.job.specs.Jobs.{add, remove, Arguments, done, conflict, noRoom, gaveUp, notOurs, gone, kept, Stage, beforeA, beforeB, beforeFirst, beforeSecond, ended, among, possible}
 
 -- ---- the numbers of stages
 

@@ -15,7 +15,7 @@ use Rattle.hosts.specs.Count.{Octets}
 use Rattle.hosts.specs.Addresses.{four}
 use Rattle.zone.specs.Zone.{Zone, Form, keepOthers, Answer, success, YXDOMAIN, NXDOMAIN, NXRRSET, address, requestA, fits, requestB, removeAddress, removeName}
 use Rattle.job.specs.Jobs.{Kind, add, remove, Arguments, End, gaveUp, notOurs, gone, kept, Stage, beforeA, beforeB, beforeFirst, beforeSecond, ended, Job, firstStage, fresh, after, passed, afterFirst, afterSecond, step, sent}
-use Rattle.serial.specs.Demand.{Calls, Promises, going, Fresh, no-job, one-more, Steps, start, stepped, refused, ownSteps, ChangedNothing, Moment, EndedFirst, verdict, stands, times, In, Before, InTurn, nobody, next, Explains, Story, Demand3, Stronger}
+use Rattle.serial.specs.Demand.{Calls, Promises, going, Fresh, no-job, one-more, Steps, start, stepped, refused, ownSteps, ChangedNothing, Moment, EndedFirst, verdict, stands, times, In, Before, InTurn, nobody, next, Explains, Story, Demand3, Stronger, LeftOutIdle}
 use Rattle.zone.proofs.ZoneLaws.{some≢none, option-case, zone-eq, put-off}
 use Rattle.serial.proofs.ListLaws.{set-same, set-other}
 use Rattle.serial.proofs.RequestLaws.{form-step, whole, whole-sends, outcome, quiet}
@@ -452,3 +452,6 @@ stronger C P s =
 
 pub demand3 : (C : Calls) → Promises C → Demand3 C
 demand3 C P s a = stronger C P s .0
+
+pub left-out-idle : (C : Calls) → Promises C → LeftOutIdle C
+left-out-idle C P s i e p q = left-out C P s i e p q

@@ -1,11 +1,14 @@
+-- The proof of demand 3, from the zone's laws and the rules of jobs up.
 pub mod ListLaws
 pub mod HostLaws
 pub mod RequestLaws
+pub mod StageLaws
 pub mod OrderLaws
 pub mod Placing
 pub mod Demand
-pub mod StageLaws
+pub mod InTime
+-- The calls that run.
+pub mod Running
+-- Lists of steps: P12, and why removes can't be asked to answer alike.
 pub mod Cases
 pub mod RemovesDiffer
-pub mod InTime
-pub mod Running

@@ -1,22 +1,19 @@
 -- The calls that run keep the promises: demand 3, with no parameter left. Assumes nothing.
-use mathlib.Core.Path.{_≡_, refl, sym, _∙_, ap, subst}
-use mathlib.Core.Bool.{Bool, true, false}
-use Prim.Native.Nat.{ℕ}
+use mathlib.Core.Path.{_≡_, sym, _∙_, ap, subst}
+use mathlib.Core.Bool.{true}
 use Rattle.zone.specs.declared.survey.Zone.{Zone}
-use Rattle.zone.specs.Meaning.{nameOf, isFull, zoneOf, policyOf, updateOf, formed}
-use Rattle.zone.specs.Zone.{keepOthers}
+use Rattle.zone.specs.Meaning.{nameOf, isFull, zoneOf, formed}
 use Rattle.zone.proofs.PlaceLaws.{form-of}
 use Rattle.job.specs.declared.job.Job.{Job}
 use Rattle.job.specs.declared.step.Stepped.{Stepped}
-use Rattle.job.specs.Jobs as rules
-use Rattle.job.specs.Jobs.{Arguments, add, remove, Stage, possible, fresh, step}
+use Rattle.job.specs.Jobs.{Arguments, possible, fresh}
 use Rattle.job.specs.Meaning.{argumentsOf, stageOf, jobOf, atStage, numbersListed, freshAdd, freshRemove}
 use Rattle.job.specs.Promise.{newRefusal, stepRefusal, stepOf, StepPromise}
-use Rattle.job.proofs.JobLaws.{kind-same, listed-after, possible-before, listed-of, full-of, unrefused, zone-after, job-after, new-none, new-is, add-is, remove-is, add-listed, add-full, remove-listed, remove-full}
-use Rattle.serial.specs.Demand.{Calls, Promises, Demand3, Stronger, EndsInTime, NeverRefused}
-use Rattle.serial.specs.Running.{FormedZone, NewCall, new-add, new-remove, running, Delivered}
+use Rattle.job.proofs.JobLaws.{listed-after, possible-before, listed-of, full-of, unrefused, zone-after, job-after, new-none, new-is, add-is, remove-is, add-listed, add-full, remove-listed, remove-full}
+use Rattle.serial.specs.Demand.{Promises}
+use Rattle.serial.specs.Running.{NewCall, new-add, new-remove, running, Delivered}
 use Rattle.serial.proofs.StageLaws.{possible-step}
-use Rattle.serial.proofs.Demand.{stronger, demand3}
+use Rattle.serial.proofs.Demand.{stronger, demand3, left-out-idle}
 use Rattle.serial.proofs.InTime.{Taken, ends-in-time, never-refused, six-at-most}
 
 new-job : (j : Arguments) (k : Job) → NewCall j k → jobOf k ≡ record { arguments = j; stage = fresh j }
@@ -76,6 +73,7 @@ pub delivered : Delivered
 delivered = record {
   demand3 = demand3 running kept-promises;
   stronger = stronger running kept-promises;
+  left-out-idle = left-out-idle running kept-promises;
   ends-in-time = ends-in-time running kept-promises;
   never-refused = never-refused running (λ z. formed z ≡ true) Ok taken;
   six-at-most = six-at-most running kept-promises;

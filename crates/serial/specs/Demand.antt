@@ -9,7 +9,7 @@ use lib.Dec.{eqb}
 use lib.ListN.{getElem?, set}
 use Rattle.hosts.specs.Count.{Octets}
 use Rattle.zone.specs.Zone.{Host, Zone, Form, empty}
-use Rattle.job.specs.Jobs.{Kind, add, remove, Arguments, End, done, conflict, noRoom, gaveUp, notOurs, gone, kept, Stage, beforeA, beforeB, beforeFirst, beforeSecond, ended, Job, State, fresh, step, Sends, sent}
+use Rattle.job.specs.Jobs.{Kind, add, remove, Arguments, End, done, conflict, noRoom, gaveUp, notOurs, gone, kept, Stage, beforeA, beforeB, beforeFirst, beforeSecond, ended, Job, fresh, step, Sends, sent}
 
 -- The public calls: the zone and the job that a program holds, and what they mean; what a job step returns; and what is known of a call that
 -- has been made. specs/Running.antt gives them for the calls that run.
@@ -176,6 +176,10 @@ Demand3 C = (s : Story C) → HeldHaveAddress (C .zoneOf (s .first-zone)) → Se
 -- What is shown: the same from every zone of good form, held names without addresses or not, and in the order seen.
 abbrev pub Stronger : Calls → Type 0
 Stronger C = (s : Story C) → (r : Serializable C s) × AsSeen C s (r .order)
+
+-- As a theorem of its own: an add that ended no room or gave up changed nothing.
+abbrev pub LeftOutIdle : Calls → Type 0
+LeftOutIdle C = (s : Story C) (i : ℕ) (e : End) → getElem? (s .ends) i ≡ some e → verdict e ≡ none → ChangedNothing C (s .steps) i
 
 -- ---- that the claim is not empty
 

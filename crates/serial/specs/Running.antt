@@ -1,6 +1,6 @@
 -- The calls that run: demand 3's calls with the structs and the promises of crate job, and the theorem about them.
 use mathlib.Core.Path.{_≡_}
-use mathlib.Core.Bool.{Bool, true}
+use mathlib.Core.Bool.{true}
 use Prim.Native.Nat.{ℕ}
 use lib.ListN.{length}
 use Rattle.zone.specs.declared.name.Name.{Name}
@@ -15,7 +15,7 @@ use Rattle.job.specs.declared.step.Stepped.{Stepped}
 use Rattle.job.specs.Jobs.{Arguments, add, remove}
 use Rattle.job.specs.Meaning.{jobOf}
 use Rattle.job.specs.Promise.{AddPromise, RemovePromise, StepPromise}
-use Rattle.serial.specs.Demand.{Calls, Demand3, Stronger, EndsInTime, NeverRefused, SixAtMost}
+use Rattle.serial.specs.Demand.{Calls, Demand3, Stronger, LeftOutIdle, EndsInTime, NeverRefused, SixAtMost}
 
 -- A zone that is not refusal 17. That its array has 64 places is its type's; here it is said.
 pub record FormedZone (z : Zone) : Type 0 where
@@ -48,6 +48,7 @@ running = record {
 pub record Delivered : Type 0 where
   pub demand3 : Demand3 running
   pub stronger : Stronger running
+  pub left-out-idle : LeftOutIdle running
   pub ends-in-time : EndsInTime running
   pub never-refused : NeverRefused running
   pub six-at-most : SixAtMost running

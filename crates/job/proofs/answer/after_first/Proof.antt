@@ -1,4 +1,4 @@
-use mathlib.Core.Path.{_≡_, _∙_}
+use mathlib.Core.Path.{_∙_}
 use Rattle.job.proofs.AnswerLaws.{leads-second, leads-not-ours}
 use borrow.Author.Needs.{needs}
 use Rattle.job.proofs.answer.after_first.Statement.{statement}

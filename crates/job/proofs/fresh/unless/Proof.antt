@@ -1,4 +1,3 @@
-use mathlib.Core.Path.{_≡_, sym, ap}
 use borrow.Author.Tests.{ne-eqb}
 use Rattle.job.specs.Promise.{newJob}
 use borrow.Author.Needs.{needs}

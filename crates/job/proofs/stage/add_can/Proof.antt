@@ -1,6 +1,5 @@
-use mathlib.Core.Path.{_≡_, sym, _∙_, ap}
+use mathlib.Core.Path.{sym, _∙_, ap}
 use Prim.Native.Nat.{ℕ}
-use Rattle.job.specs.Jobs.{among}
 use Rattle.job.specs.Meaning.{canHave}
 use Rattle.job.proofs.StageLaws.{can-a, can-b, can-conflict, can-gave-up, can-nothing, can-rest}
 use borrow.Author.Needs.{needs}

@@ -1,4 +1,4 @@
-use mathlib.Core.Path.{_≡_, sym}
+use mathlib.Core.Path.{sym}
 use Rattle.job.proofs.StageLaws.{can-low, can-remove}
 use Rattle.job.proofs.stage.remove_can.Statement.{statement}
 use Rattle.job.proofs.stage.remove_can.Tie as tie

@@ -1,5 +1,5 @@
 use borrow.Author.Tests.{eq-eqb}
-use mathlib.Core.Path.{_≡_, refl, sym, ap}
+use mathlib.Core.Path.{refl, sym, ap}
 use mathlib.Core.Bool.{Bool, cond}
 use borrow.Author.Tests.{ne-eqb}
 use Rattle.job.proofs.step.carried.Statement.{statement}

@@ -1,4 +1,4 @@
-use mathlib.Core.Path.{_≡_, sym, _∙_}
+use mathlib.Core.Path.{sym, _∙_}
 use Rattle.job.proofs.StepLaws.{form-fails, form-holds, refused-form, refused-numbers}
 use borrow.Author.Needs.{needs}
 use Rattle.job.proofs.step.refuse.Statement.{statement}
