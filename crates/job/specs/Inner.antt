@@ -29,9 +29,9 @@ Leads j number rule r = (a : Answer) → number ≡ numberOf a → r ≡ atStage
 
 -- What a request came to, and the next job unless it was refused.
 pub record Carried (sent : Answered) (j next : Job) (r : Stepped) : Type 0 where
-  pub refusal-is : r .refusal ≡ sent .refusal
-  pub zone-is : r .zone ≡ sent .zone
-  pub job-is : r .job ≡ cond (eqb (sent .refusal) 0) next j
+  pub refusalIs : r .refusal ≡ sent .refusal
+  pub zoneIs : r .zone ≡ sent .zone
+  pub jobIs : r .job ≡ cond (eqb (sent .refusal) 0) next j
 
 -- The number of no stage that sends a request.
 pub record Idle (stage : ℕ) : Type 0 where

@@ -86,7 +86,7 @@ heldByX s = record { size = 1; at = λ k. cond (sameOctets pipe k) (some (xHost 
 module _ (s : Addresses) (few : s .count ≤ 4) (counted : Counts (s .count) (s .has)) where
   good-x : GoodHost (xHost s)
   unfolding xHost
-  good-x = record { four-a-family = four-each; counted = each }
+  good-x = record { atMostFour = four-each; counted = each }
     where
       four-each : (f : Family) → xHost s .addresses f .count ≤ 4
       four-each four = few

@@ -250,8 +250,8 @@ module _ (C : Calls) (P : Promises C) (js : List Arguments) (z₀ : C .Z) (ks₀
       is-a : JJ i ≡ a
       is-a = J-is C js i a (along l i k g)
 
-      zone-is : step (JJ i) (C .zoneOf z) s .zone ≡ C .zoneOf (C .zone r)
-      zone-is = ap (λ (x : Arguments). step x (C .zoneOf z) s .zone) is-a ∙ sym (P .zone-after z k r p q)
+      zoneIs : step (JJ i) (C .zoneOf z) s .zone ≡ C .zoneOf (C .zone r)
+      zoneIs = ap (λ (x : Arguments). step x (C .zoneOf z) s .zone) is-a ∙ sym (P .zone-after z k r p q)
 
       stages-are : stand f i (step (JJ i) (C .zoneOf z) s .stage) ≡ stages C js ks′
       stages-are =
@@ -262,10 +262,10 @@ module _ (C : Calls) (P : Promises C) (js : List Arguments) (z₀ : C .Z) (ks₀
       go (m) =
           let n = move JJ (C .zoneOf z₀) g₀ (C .zoneOf z) f (m .0) (m .1) (m .3) i s (stage-is C js ks i k g) in
           let v : Holds (C .zoneOf (C .zone r)) (stages C js ks′) (n .0) =
-          subst (λ (x : Zone). Holds x (stages C js ks′) (n .0)) zone-is
+          subst (λ (x : Zone). Holds x (stages C js ks′) (n .0)) zoneIs
           (subst (λ (h : ℕ → Stage). Holds (step (JJ i) (C .zoneOf z) s .zone) h (n .0)) stages-are (n .1)) in
           let w : Orders (EndedFirst C l) (stages C js ks′) (n .0) = subst (λ (h : ℕ → Stage). Orders (EndedFirst C l) h (n .0)) stages-are (n .2 (EndedFirst C l) (m .2)) in
-          (n .0, v, absorb (EndedFirst C l) (C .zoneOf (C .zone r)) ks′ (n .0) (along (stepped l i k r g p q)) v w, subst Form zone-is (form-step (JJ i) (C .zoneOf z) (m .3) s))
+          (n .0, v, absorb (EndedFirst C l) (C .zoneOf (C .zone r)) ks′ (n .0) (along (stepped l i k r g p q)) v w, subst Form zoneIs (form-step (JJ i) (C .zoneOf z) (m .3) s))
 
   pub counts : {z : C .Z} {ks : List (C .J)} (l : Steps C z₀ ks₀ z ks) (x : ℕ) (k : C .J) → getElem? ks x ≡ some k → Sent (C .jobOf k .stage) (ownSteps C l x)
   unfolding ownSteps

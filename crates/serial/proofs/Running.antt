@@ -24,7 +24,7 @@ new-job j k (new-remove n d family a r p e) = ap jobOf (new-is (newRefusal (name
 
 pub kept-promises : Promises running
 kept-promises = record {
-  formed = λ z f. form-of z (f .places) (f .form);
+  formed = λ z f. form-of z f;
   new = new-job;
   zone-after = λ z k r p e. zone-after z k r p e;
   job-after = λ z k r p e. job-after z k r p e;
@@ -45,24 +45,24 @@ new-ok j k (new-remove n d family a r p e) =
 
 module _ (z : Zone) (k : Job) (r : Stepped) (p : StepPromise z k r) where
   step-unrefused : formed z ≡ true → Ok k → r .refusal ≡ 0
-  step-unrefused f o = p .refusal-is ∙ unrefused z k f (o .0) (o .1)
+  step-unrefused f o = p .refusalIs ∙ unrefused z k f (o .0) (o .1)
 
   module _ (e : r .refusal ≡ 0) where
     none : stepRefusal z k ≡ 0
-    none = sym (p .refusal-is) ∙ e
+    none = sym (p .refusalIs) ∙ e
 
     step-formed : formed (r .zone) ≡ true
-    step-formed = p .formed-again none
+    step-formed = p .formedAgain none
 
     step-ok : Ok (r .job)
-    step-ok = subst Ok (sym (p .job-is none)) (listed-after z k (listed-of z k none) can, (unfold atStage in full-of z k none))
+    step-ok = subst Ok (sym (p .jobIs none)) (listed-after z k (listed-of z k none) can, (unfold atStage in full-of z k none))
       where
         can : possible (stepOf z k .stage) ≡ true
         can = possible-step (argumentsOf k) (zoneOf z) (stageOf (k .stage) (k .count)) (unfold jobOf in possible-before z k (listed-of z k none))
 
 pub taken : Taken running (λ (z : Zone). formed z ≡ true) Ok
 taken = record {
-  formed-ok = λ z f. f .form;
+  formed-ok = λ z f. f;
   new-ok = new-ok;
   unrefused = λ z k r f o p. step-unrefused z k r p f o;
   zone-ok = λ z k r p e. step-formed z k r p e;
