@@ -1,6 +1,6 @@
 -- Each case holds by computing the definitions. Assumes nothing.
 use mathlib.Core.Path.{refl}
-use Rattle.dname.specs.Name.{labelsOf, limited, shapeOf}
+use Rattle.dname.specs.Name.{labelsOf, limited, shapeOf, key}
 use Rattle.fqdn.specs.Flags.{honoured, flagAnswer}
 use Rattle.fqdn.specs.Answer.{byName, bySuffix, byFlags, byValue, answerOf, octetsOf, resultOf}
 use Rattle.octets.specs.Compare.{sameOctets}
@@ -16,8 +16,11 @@ use Rattle.leasepacket.specs.Query.{anySet, hardware, hardwareSet, keyed, relay
 use Rattle.leasetable.specs.Table.{risesFrom, tableFits, those, placed, ranked}
 use Rattle.leasereply.specs.Reply.{fixed, ofLease, flat, otherReply, activeReply}
 use Rattle.leasequery.specs.Answer.{hasKey, byAddressOf, byClientOf, answerBy, askedOf, answer}
-use Rattle.cases.specs.Cases.{Holds, All, cases}
+use Rattle.hosts.specs.Addresses.{mark}
+use Rattle.zone.specs.Zone.{with, put, heldBy, empty, address, newHost, left, fits, writeB, requestA, requestB, removeAddress, removeName}
+use Rattle.job.specs.Jobs.{fresh, after, afterFirst, afterSecond, step}
+use Rattle.cases.specs.Cases.{Holds, All, cases, stepped, steppedFresh}
 
 pub cases-hold : All cases
-unfolding All Holds cases labelsOf limited shapeOf honoured flagAnswer byName bySuffix byFlags byValue answerOf octetsOf resultOf sameOctets numberAt isExpiry isPast expiryAfter keep oneOf each distinct removed renewed evicted roomed inserted named namedAll isWhole options isArea acts addressesFrom packed isSound isTimely optionApplied serverList bigEndian isAhead secondsLeft secondsSince allZero hardwareFits lengthsFit momentsFit wellFormed activeAt hasClientId ranksBefore packetOptions.options values checked anySet hardware hardwareSet keyed relayed typed asking risesFrom tableFits those placed ranked fixed ofLease flat otherReply activeReply hasKey byAddressOf byClientOf answerBy askedOf answer
-cases-hold = (refl, (refl, (refl, (refl, (refl, (refl, (refl, ((refl, refl), ((refl, refl), ((refl, refl), (refl, (refl, (refl, (refl, (refl, ((refl, refl), tt))))))))))))))))
+unfolding All Holds cases labelsOf limited shapeOf honoured flagAnswer byName bySuffix byFlags byValue answerOf octetsOf resultOf sameOctets numberAt isExpiry isPast expiryAfter keep oneOf each distinct removed renewed evicted roomed inserted named namedAll isWhole options isArea acts addressesFrom packed isSound isTimely optionApplied serverList bigEndian isAhead secondsLeft secondsSince allZero hardwareFits lengthsFit momentsFit wellFormed activeAt hasClientId ranksBefore packetOptions.options values checked anySet hardware hardwareSet keyed relayed typed asking risesFrom tableFits those placed ranked fixed ofLease flat otherReply activeReply hasKey byAddressOf byClientOf answerBy askedOf answer key mark with put heldBy empty address newHost left fits writeB requestA requestB removeAddress removeName fresh after afterFirst afterSecond step stepped steppedFresh
+cases-hold = (refl, (refl, (refl, (refl, (refl, (refl, (refl, ((refl, refl), ((refl, refl), ((refl, refl), (refl, (refl, (refl, (refl, (refl, ((refl, refl), ((refl, refl, refl), ((refl, refl, refl), ((refl, refl, refl), tt)))))))))))))))))))

@@ -1,6 +1,8 @@
 -- Document 01, "Proof cases": what the definitions that the promises cite come to on each case. No rule is defined here.
 use mathlib.Core.Path.{_≡_}
+use mathlib.Core.Bool.{Bool, true, false}
 use mathlib.Core.List.{List, [], _∷_, _++_}
+use mathlib.Core.Option.{Option, none}
 use Prim.Native.Nat.{ℕ}
 use lib.ListN.{replicate}
 use Rattle.clock.specs.Clock.{moment}
@@ -9,6 +11,10 @@ use Rattle.fqdn.specs.Answer.{answerOf, octetsOf, resultOf}
 use Rattle.octets.specs.Number.{numberAt}
 use Rattle.lease.specs.declared.Lease.{Lease}
 use Rattle.leasequery.specs.Answer.{answer as queryAnswer, told, written}
+use Rattle.dname.specs.Name.{key}
+use Rattle.hosts.specs.Addresses.{four}
+use Rattle.zone.specs.Zone.{Host, Zone, Update, keepOthers, requestA}
+use Rattle.job.specs.Jobs.{add, remove, Arguments, conflict, gone, Stage, beforeFirst, ended, fresh, step}
 use Rattle.rdnss.specs.ServerList.{packed, answer, serverList}
 use Rattle.rdnss.specs.declared.Server.{Server}
 
@@ -22,6 +28,22 @@ pub data Case : Type 0 where
   area : ℕ → List Server → ℕ → List ℕ → List Server → Case
   -- a lease query at a moment over a table, in a buffer of 648 octets: the reply's kind and its ciaddr
   query : ℕ → List Lease → List ℕ → ℕ → ℕ → Case
+  -- the steps of two fresh jobs X and Y on a zone, in the order of a list (true: X): where X stands then, where Y does, and what stands at X's name
+  jobs : Zone → Arguments → Arguments → List Bool → Stage → Stage → Option Host → Case
+
+-- A zone and where two jobs on it stand; a step of each by the rules.
+pub record Two : Type 0 where
+  pub zone : Zone
+  pub x : Stage
+  pub y : Stage
+
+unfoldable pub stepped : Arguments → Arguments → List Bool → Two → Two
+stepped x y [] t = t
+stepped x y (true ∷ turns) t = stepped x y turns (record { zone = step x (t .zone) (t .x) .zone; x = step x (t .zone) (t .x) .stage; y = t .y })
+stepped x y (false ∷ turns) t = stepped x y turns (record { zone = step y (t .zone) (t .y) .zone; x = t .x; y = step y (t .zone) (t .y) .stage })
+
+unfoldable pub steppedFresh : Zone → Arguments → Arguments → List Bool → Two
+steppedFresh zone x y turns = stepped x y turns (record { zone = zone; x = fresh x; y = fresh y })
 
 unfoldable pub Holds : Case → Type 0
 Holds (flags f s n number) = flagAnswer f s n ≡ number
@@ -30,6 +52,8 @@ Holds (option value suffix octets number) =
 Holds (area last before now octets after) = serverList (packed (moment last) before) (moment now) octets ≡ answer 0 (packed (moment now) after)
 Holds (query now table packet kind address) =
     (told (queryAnswer (moment now) table 0 packet 648) .kind ≡ kind) × (numberAt 4 (written (queryAnswer (moment now) table 0 packet 648)) 12 ≡ address)
+Holds (jobs zone x y turns xStage yStage host) =
+    (steppedFresh zone x y turns .x ≡ xStage) × (steppedFresh zone x y turns .y ≡ yStage) × (steppedFresh zone x y turns .zone .at (key (x .update .name)) ≡ host)
 
 unfoldable pub All : List Case → Type 0
 All [] = Unit
@@ -69,6 +93,25 @@ abbrev packet : List ℕ
 packet =
     (1 ∷ replicate 23 0) ++ (10 ∷ 0 ∷ 0 ∷ 1 ∷ replicate 208 0) ++ (99 ∷ 130 ∷ 83 ∷ 99 ∷ 53 ∷ 1 ∷ 10 ∷ 61 ∷ 2 ∷ 112 ∷ 55 ∷ 255 ∷ [])
 
+-- P11 and P12: pipe7.stage, held by X with the one address that X added to the empty zone
+abbrev update : ℕ → ℕ → Update
+update dhcid octet =
+    record {
+      name = 5 ∷ 112 ∷ 105 ∷ 112 ∷ 101 ∷ 55 ∷ stage;
+      dhcid = replicate 35 dhcid;
+      family = four;
+      address = 10 ∷ 0 ∷ 0 ∷ octet ∷ [];
+    }
+
+abbrev held : Zone
+held = requestA (update 1 7) (record { size = 0; at = λ k. none }) .zone
+
+abbrev xRemoves : Arguments
+xRemoves = record { kind = remove; update = update 1 7; policy = keepOthers }
+
+abbrev yAdds : Arguments
+yAdds = record { kind = add; update = update 2 8; policy = keepOthers }
+
 unfoldable pub cases : List Case
 cases =
     -- P1: flags 249, S honoured
@@ -97,4 +140,9 @@ cases =
     ∷ area 100 (server 1 160 ∷ []) 161 [] []
     -- P10: two active leases with equal transaction moments: the lower address
     ∷ query 100 (lease 7 ∷ lease 9 ∷ []) packet 13 7
+    -- P11: the name is held by X, Y adds: two requests, conflict
+    ∷ jobs held xRemoves yAdds (false ∷ false ∷ []) beforeFirst (ended (conflict 2)) (held .at (key (update 1 7 .name)))
+    -- P12: X removes its only address, Y adds in between: Y in conflict and the name gone, as with Y first and X after
+    ∷ jobs held xRemoves yAdds (true ∷ false ∷ false ∷ true ∷ []) (ended gone) (ended (conflict 2)) none
+    ∷ jobs held xRemoves yAdds (false ∷ false ∷ true ∷ true ∷ []) (ended gone) (ended (conflict 2)) none
     ∷ []
