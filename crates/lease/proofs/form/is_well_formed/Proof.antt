@@ -7,7 +7,7 @@ use Rattle.lease.proofs.form.is_well_formed.Tie as tie
 
 returns : tie.Need-returns
 unfolding wellFormed
-returns c = simp (lt-leb _ _ (c .if1 .taken))
+returns c = simp (lt-leb (c .before .before .args .x .state) 1 (c .if1 .taken))
 
 do-lengths-fit-requires : tie.Need-do-lengths-fit-requires
 do-lengths-fit-requires c κs = search needs

@@ -7,7 +7,7 @@ use Rattle.lease.proofs.key.is_active.Tie as tie
 
 returns : tie.Need-returns
 unfolding activeAt
-returns c = simp (ne-eqb _ _ (c .if1 .taken))
+returns c = simp (ne-eqb (c .before .before .args .x .state) 1 (c .if1 .taken))
 
 is-ahead-requires : tie.Need-is-ahead-requires
 is-ahead-requires c κs = search needs

@@ -1,3 +1,4 @@
+use lib.ListN.{length}
 use borrow.Author.Tests.{eq-eqb, ne-eqb, le-leb, lt-leb, lt-ltb, le-ltb, not-true, not-false}
 use mathlib.Core.Path.{_≡_, sym, _∙_, ap, refl, subst}
 use Rattle.leasepacket.specs.Query.{asking}
@@ -8,7 +9,7 @@ use Rattle.leasepacket.proofs.query.read.Tie as tie
 
 returns : tie.Need-returns
 unfolding asking
-returns c = simp (lt-ltb _ _ (c .if1 .taken))
+returns c = simp (lt-ltb (length (c .before .before .args .p .now)) 240 (c .if1 .taken))
 
 returns-2 : tie.Need-returns-2
 unfolding asking

@@ -1,3 +1,4 @@
+use Rattle.clock.specs.Clock.{secondsLeft, secondsSince}
 use mathlib.Core.Path.{_≡_, sym, ap}
 use Rattle.octets.proofs.WriteLaws.{then}
 use Rattle.leasereply.specs.Reply.{ofLease}
@@ -28,7 +29,11 @@ same-length c = search needs
 
 returns : tie.Need-returns
 unfolding ofLease
-returns c = rw (sym (c .before .before .before .before .before .before .before .before .before .before .before .before .before .before .before .before .before .before .before .before .seconds-left .ensures), sym (c .before .before .before .before .seconds-since .ensures)) (then (then (then (c .before .before .before .before .before .before .before .before .before .before .before .before .before .before .before .before .before .before .put-number .ensures) (c .before .before .before .before .before .before .before .before .before .before .before .before .before .put-optional .ensures)) (c .before .before .before .before .before .before .before .before .put-optional2 .ensures)) (c .before .before .put-number2 .ensures))
+returns c =
+    let s = c .before .before .before .before .before .before .before .before .before .before .before .before .before .before .before .before .before .before .before .before .before .before .before .args in
+    let l : c .before .before .before .before .before .before .before .before .before .before .before .before .before .before .before .before .before .before .before .before .seconds-left .result ≡ secondsLeft (s .x .expiry) (s .clock) = c .before .before .before .before .before .before .before .before .before .before .before .before .before .before .before .before .before .before .before .before .seconds-left .ensures in
+    let n : c .before .before .before .before .seconds-since .result ≡ secondsSince (s .x .last) (s .clock) = c .before .before .before .before .seconds-since .ensures in
+    rw (sym l, sym n) (then (then (then (c .before .before .before .before .before .before .before .before .before .before .before .before .before .before .before .before .before .before .put-number .ensures) (c .before .before .before .before .before .before .before .before .before .before .before .before .before .put-optional .ensures)) (c .before .before .before .before .before .before .before .before .put-optional2 .ensures)) (c .before .before .put-number2 .ensures))
 
 pub put-lease-spec : {M : Type 1} → statement M
 put-lease-spec =

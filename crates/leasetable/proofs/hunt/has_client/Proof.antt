@@ -10,7 +10,7 @@ has-hardware-requires c κs = search needs
 
 returns : tie.Need-returns
 unfolding clientHas
-returns c = simp (eq-eqb _ _ (c .before .before .if1 .taken)) (c .has-hardware .ensures)
+returns c = simp (eq-eqb (c .before .before .before .before .args .k .kind) 2 (c .before .before .if1 .taken)) (c .has-hardware .ensures)
 
 has-client-id-requires : tie.Need-has-client-id-requires
 has-client-id-requires c κs = search needs
