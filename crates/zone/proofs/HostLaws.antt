@@ -8,6 +8,7 @@ use native.Mathlib.Omega.{arith}
 use lib.Dec.{eqb, leb, ltb}
 use lib.ListN.{length, getD, take}
 use borrow.Author.Tests.{eq-eqb, ne-eqb, leb-true, le-leb}
+use Rattle.octets.specs.Compare.{sameOctets}
 use Rattle.hosts.specs.Count.{Octets, member, distinct}
 use Rattle.hosts.specs.Addresses.{Family, four, six, Addresses, nothing, mark, list4, list6, setOf, sound, joined, without}
 use Rattle.hosts.specs.declared.set4.Set4.{Set4}
@@ -18,7 +19,7 @@ use Rattle.zone.specs.declared.entry.Entry.{Entry}
 use Rattle.zone.specs.declared.entry.Address.{Address}
 use Rattle.zone.specs.declared.entry.Dhcid.{Dhcid}
 use Rattle.zone.specs.declared.name.Name.{Name}
-use Rattle.zone.specs.Zone.{Host, Update, isFamily, with, ownFamily, address, fits, left, newHost}
+use Rattle.zone.specs.Zone.{Host, Update, isFamily, heldBy, with, ownFamily, address, fits, left, newHost}
 use Rattle.zone.specs.Meaning.{nameOf, isFull, listOf, hostOf, inOrder, familyOf, policyOf, addressOf, updateOf}
 use Rattle.zone.specs.Survey.{Kept, Fresh, Joined, About, emptied}
 
@@ -79,24 +80,24 @@ module _ (e : Entry) (o : inOrder e ≡ true) where
   kept4 w s t q =
       let p = order-parts e o in
       record {
-        kind-is = refl;
-        name-is = refl;
-        order-is = order-whole (with4 e w) (record { kind = p .kind; full-name = p .full-name; sound4 = t; sound6 = p .sound6 });
-        host-is = host4 e w ∙ ap (λ (x : Addresses). with four x (hostOf e)) q;
+        kindIs = refl;
+        nameIs = refl;
+        orderIs = order-whole (with4 e w) (record { kind = p .kind; full-name = p .full-name; sound4 = t; sound6 = p .sound6 });
+        hostIs = host4 e w ∙ ap (λ (x : Addresses). with four x (hostOf e)) q;
       }
 
   pub kept6 : (w : Set6) (s : Addresses) → sound (w .count) (list6 w) ≡ true → setOf (list6 w) ≡ s → Kept e (with6 e w) (with six s (hostOf e))
   kept6 w s t q =
       let p = order-parts e o in
       record {
-        kind-is = refl;
-        name-is = refl;
-        order-is = order-whole (with6 e w) (record { kind = p .kind; full-name = p .full-name; sound4 = p .sound4; sound6 = t });
-        host-is = host6 e w ∙ ap (λ (x : Addresses). with six x (hostOf e)) q;
+        kindIs = refl;
+        nameIs = refl;
+        orderIs = order-whole (with6 e w) (record { kind = p .kind; full-name = p .full-name; sound4 = p .sound4; sound6 = t });
+        hostIs = host6 e w ∙ ap (λ (x : Addresses). with six x (hostOf e)) q;
       }
 
 pub kept-same : (e : Entry) → inOrder e ≡ true → Kept e e (hostOf e)
-kept-same e o = record { kind-is = refl; name-is = refl; order-is = o; host-is = refl }
+kept-same e o = record { kindIs = refl; nameIs = refl; orderIs = o; hostIs = refl }
 
 -- ---- no addresses
 
@@ -117,6 +118,16 @@ both-empty e p q =
     on four = set-nothing (list4 (e .v4)) p
     on six = set-nothing (list6 (e .v6)) q
 
+-- ---- whether a DHCID holds the name
+
+pub held-static : (e : Entry) (d : Octets) → e .kind ≡ 1 → heldBy d (hostOf e .owner) ≡ false
+unfolding hostOf heldBy
+held-static e d k = simp (eq-eqb (e .kind) 1 k)
+
+pub held-other : (e : Entry) (d : Octets) → ¬ (e .kind ≡ 1) → heldBy d (hostOf e .owner) ≡ sameOctets (e .dhcid .octets) d
+unfolding hostOf heldBy
+held-other e d k = simp (ne-eqb (e .kind) 1 k)
+
 -- ---- families by their numbers
 
 pub family-four : (n : ℕ) → n ≡ 4 → familyOf n ≡ four
@@ -136,25 +147,25 @@ first-four (a ∷ b ∷ c ∷ d ∷ o) h = refl
 
 -- an update about family 4, and one about family 6
 pub record Means (u : Update) (f : Family) (x : Octets) : Type 0 where
-  pub family-is : u .family ≡ f
-  pub address-is : u .address ≡ x
+  pub familyIs : u .family ≡ f
+  pub addressIs : u .address ≡ x
 
 pub means4 : {n : ℕ} {a : Address} {u : Update} {x : Octets} → About n a u → n ≡ 4 → x ≡ take 4 (a .octets) → Means u four x
-means4 {n} {a} {u} b e q = record { family-is = b .family-is ∙ family-four n e; address-is = b .address-is ∙ ap (λ (f : Family). addressOf f a) (family-four n e) ∙ sym q }
+means4 {n} {a} {u} b e q = record { familyIs = b .familyIs ∙ family-four n e; addressIs = b .addressIs ∙ ap (λ (f : Family). addressOf f a) (family-four n e) ∙ sym q }
 
 pub means6 : {n : ℕ} {a : Address} {u : Update} {x : Octets} → About n a u → ¬ (n ≡ 4) → x ≡ a .octets → Means u six x
-means6 {n} {a} {u} b e q = record { family-is = b .family-is ∙ family-six n e; address-is = b .address-is ∙ ap (λ (f : Family). addressOf f a) (family-six n e) ∙ sym q }
+means6 {n} {a} {u} b e q = record { familyIs = b .familyIs ∙ family-six n e; addressIs = b .addressIs ∙ ap (λ (f : Family). addressOf f a) (family-six n e) ∙ sym q }
 
 -- ---- room, an address more, an address less: for both families
 
 module _ (e : Entry) (u : Update) (f : Family) (x : Octets) (m : Means u f x) where
   pub fits-by : fits u (hostOf e) ≡ (member x (listOf e f) || ltb (length (listOf e f)) 4)
   unfolding fits hostOf
-  fits-by = rw (m .family-is, m .address-is)
+  fits-by = rw (m .familyIs, m .addressIs)
 
   address-by : (v : Bool) → address u v (hostOf e) ≡ with f (mark x v (setOf (listOf e f))) (hostOf e)
   unfolding address hostOf
-  address-by v = rw (m .family-is, m .address-is)
+  address-by v = rw (m .familyIs, m .addressIs)
 
   -- what a set comes to, where it is made of the one that stood there
   pub join-by : (l : List Octets) → distinct (listOf e f) ≡ true → fits u (hostOf e) ≡ true → l ≡ joined x (listOf e f) → with f (setOf l) (hostOf e) ≡ address u true (hostOf e)
@@ -167,7 +178,7 @@ module _ (e : Entry) (u : Update) (f : Family) (x : Octets) (m : Means u f x) wh
 -- ---- what policies leave
 
 pub kept-to : {e r : Entry} {h g : Host} → Kept e r h → h ≡ g → Kept e r g
-kept-to k q = record { kind-is = k .kind-is; name-is = k .name-is; order-is = k .order-is; host-is = k .host-is ∙ q }
+kept-to k q = record { kindIs = k .kindIs; nameIs = k .nameIs; orderIs = k .orderIs; hostIs = k .hostIs ∙ q }
 
 module _ (f : Family) (p : ℕ) (h : Host) where
   pub left-all : p ≡ 0 → h ≡ left f (policyOf p) h
@@ -188,10 +199,10 @@ pub kept-empty : (e r : Entry) → inOrder e ≡ true → r .kind ≡ e .kind �
 kept-empty e r o k n d p x q y =
     let s = order-parts e o in
     record {
-      kind-is = k;
-      name-is = n;
-      order-is = order-whole r (record { kind = rw k (s .kind); full-name = rw n (s .full-name); sound4 = sound-nothing _ _ x p; sound6 = sound-nothing _ _ y q });
-      host-is = both-empty r p q ∙ ap emptied (λ i. record { owner = same i; addresses = λ f. nothing });
+      kindIs = k;
+      nameIs = n;
+      orderIs = order-whole r (record { kind = rw k (s .kind); full-name = rw n (s .full-name); sound4 = sound-nothing _ _ x p; sound6 = sound-nothing _ _ y q });
+      hostIs = both-empty r p q ∙ ap emptied (λ i. record { owner = same i; addresses = λ f. nothing });
     }
   where
     same : hostOf r .owner ≡ hostOf e .owner
@@ -229,7 +240,7 @@ module _ (e : Entry) (o : inOrder e ≡ true) (u : Update) (x : Octets) where
 -- the update that a call's arguments mean is about them
 pub about : (n : Name) (d : Dhcid) (family : ℕ) (a : Address) → About family a (updateOf n d family a)
 unfolding updateOf
-about n d family a = record { family-is = refl; address-is = refl }
+about n d family a = record { familyIs = refl; addressIs = refl }
 
 module _ (n : Name) (d : Dhcid) (v4 : Set4) (v6 : Set6) (p : list4 v4 ≡ []) (x : v4 .count ≡ 0) (q : list6 v6 ≡ []) (y : v6 .count ≡ 0) where
   abbrev bare : Entry
@@ -253,4 +264,4 @@ module _ (n : Name) (d : Dhcid) (v4 : Set4) (v6 : Set6) (p : list4 v4 ≡ []) (x
     unfolding newHost
     made r j =
         let k = j .joins u (about n d family a) bare-fits in
-        record { kind-is = k .kind-is; name-is = k .name-is; order-is = k .order-is; host-is = k .host-is ∙ ap (address u true) (bare-host family a) }
+        record { kindIs = k .kindIs; nameIs = k .nameIs; orderIs = k .orderIs; hostIs = k .hostIs ∙ ap (address u true) (bare-host family a) }

@@ -7,7 +7,7 @@ use Prim.Native.Nat.{ℕ, zero, suc, _+_, _≤_, _<_, zero-le, suc-le-suc}
 use native.Mathlib.Omega.{arith}
 use lib.Dec.{eqb}
 use lib.ListN.{length, getD, set, take, length-set}
-use borrow.Author.Tests.{not-true, not-false}
+use borrow.Author.Tests.{not-true, not-false, eqb-true, eq-eqb}
 use Rattle.octets.specs.Compare.{sameOctets}
 use Rattle.octets.proofs.CompareLaws.{same-true}
 use Rattle.dname.specs.Name.{key, sameName}
@@ -28,17 +28,21 @@ use Rattle.zone.proofs.ZoneLaws.{some≢none, zone-eq, named-put, put-s
 
 -- ---- the form of the structs, and what it gives
 
+pub formed-places : (z : Zone) → formed z ≡ true → length (z .entries) ≡ 64
+unfolding formed
+formed-places z h = eqb-true (length (z .entries)) 64 (and-left (eqb (length (z .entries)) 64) _ h)
+
 pub formed-order : (z : Zone) → formed z ≡ true → allInOrder (z .entries) ≡ true
 unfolding formed
-formed-order z h = and-left (allInOrder (z .entries)) (distinct (keys (z .entries))) h
+formed-order z h = and-left (allInOrder (z .entries)) (distinct (keys (z .entries))) (and-right (eqb (length (z .entries)) 64) _ h)
 
 pub formed-names : (z : Zone) → formed z ≡ true → distinct (keys (z .entries)) ≡ true
 unfolding formed
-formed-names z h = and-right (allInOrder (z .entries)) (distinct (keys (z .entries))) h
+formed-names z h = and-right (allInOrder (z .entries)) (distinct (keys (z .entries))) (and-right (eqb (length (z .entries)) 64) _ h)
 
-pub formed-both : (z : Zone) → allInOrder (z .entries) ≡ true → distinct (keys (z .entries)) ≡ true → formed z ≡ true
+pub formed-all : (z : Zone) → length (z .entries) ≡ 64 → allInOrder (z .entries) ≡ true → distinct (keys (z .entries)) ≡ true → formed z ≡ true
 unfolding formed
-formed-both z h k = rw (h, k)
+formed-all z l h k = rw (eq-eqb (length (z .entries)) 64 l, h, k)
 
 few-keys : (es : List Entry) → length (keys es) ≤ length es
 unfolding keys
@@ -73,7 +77,7 @@ taken-few {A} f n l h = let k = go n l in omega arith
 
 good-host : (e : Entry) → inOrder e ≡ true → GoodHost (hostOf e)
 unfolding hostOf
-good-host e h = record { four-a-family = few; counted = λ f. counts-list (listOf e f) (once f) }
+good-host e h = record { atMostFour = few; counted = λ f. counts-list (listOf e f) (once f) }
   where
     once : (f : Family) → distinct (listOf e f) ≡ true
     once four = sound-once _ _ (order-parts e h .sound4)
@@ -95,10 +99,10 @@ good-look (e ∷ es) g k h p =
     go false c o q f = f q
 
 -- a zone that is not refusal 17 has the form that the rules need
-pub form-of : (z : Zone) → length (z .entries) ≡ 64 → formed z ≡ true → Form (zoneOf z)
+pub form-of : (z : Zone) → formed z ≡ true → Form (zoneOf z)
 unfolding zoneOf
-form-of z l g = record {
-  few = (let a : length (keys (z .entries)) ≤ length (z .entries) = few-keys (z .entries) in omega arith);
+form-of z g = record {
+  few = (let l = formed-places z g in let a : length (keys (z .entries)) ≤ length (z .entries) = few-keys (z .entries) in omega arith);
   names = record { list = keys (z .entries); once = formed-names z g; number = refl; exactly = look-keys (z .entries) };
   hosts = good-look (z .entries) (formed-order z g);
 }
@@ -313,7 +317,10 @@ all-used (e ∷ es) h = rw (not-false (used e) (h .0)) (ap suc (all-used es (h .
 -- ---- what a survey shows of the zone
 
 -- a place found: it is in order, what stands there stands at the name, and what is written there is written at the name
-module _ (z : Zone) (l : length (z .entries) ≡ 64) (g : formed z ≡ true) (n : Octets) (b : Entry) (r : ℕ) where
+module _ (z : Zone) (g : formed z ≡ true) (n : Octets) (b : Entry) (r : ℕ) where
+  l : length (z .entries) ≡ 64
+  l = formed-places z g
+
   abbrev pub wrote : Entry → Zone
   wrote d = record { entries = set (z .entries) r d }
 
@@ -322,9 +329,9 @@ module _ (z : Zone) (l : length (z .entries) ≡ 64) (g : formed z ≡ true) (n 
   written d h a k o =
       let m : length (wrote d .entries) ≡ 64 = simp length-set l in
       let f : formed (wrote d) ≡ true =
-      formed-both (wrote d) (order-set (z .entries) r d o (formed-order z g)) (distinct-set (z .entries) r d (key n) h a k (formed-names z g)) in (
+      formed-all (wrote d) m (order-set (z .entries) r d o (formed-order z g)) (distinct-set (z .entries) r d (key n) h a k (formed-names z g)) in (
         f,
-        zone-eq (zoneOf (wrote d)) (put n (view d) (zoneOf z)) (form-of (wrote d) m f .names) (named-put n (view d) (zoneOf z) (form-of z l g .names))
+        zone-eq (zoneOf (wrote d)) (put n (view d) (zoneOf z)) (form-of (wrote d) f .names) (named-put n (view d) (zoneOf z) (form-of z g .names))
             (λ m. unfold zoneOf put in look-set (z .entries) r d (key n) h a k m),
       )
 
@@ -385,11 +392,12 @@ module _ (z : Zone) (l : length (z .entries) ≡ 64) (g : formed z ≡ true) (n 
     pub free-room : r < 64 → zoneOf z .at (key n) ≡ none → (d : Entry) → used d ≡ true → keyOf d ≡ key n → inOrder d ≡ true → zoneOf z .size < 64
     free-room h q d u k o =
         let e = free-written h q d u k o in
-        let m : length (wrote d .entries) ≡ 64 = simp length-set l in
-        let c : zoneOf (wrote d) .size ≤ 64 = form-of (wrote d) m (e .0) .few in
+        let c : zoneOf (wrote d) .size ≤ 64 = form-of (wrote d) (e .0) .few in
         let s : zoneOf (wrote d) .size ≡ zoneOf z .size + 1 = ap (λ (x : rules.Zone). x .size) (e .1) ∙ put-size n (some (hostOf d)) (zoneOf z) ∙ rw q (omega arith) in
         omega arith
 
     pub no-room : ¬ (r < 64) → 64 ≤ zoneOf z .size
     unfolding zoneOf
-    no-room h = let e = all-used (z .entries) (here-none (λ (x : Entry). not (used x)) b (z .entries) r w l h) in omega arith
+    no-room h =
+        let m : length (z .entries) ≡ 64 = l in
+        let e = all-used (z .entries) (here-none (λ (x : Entry). not (used x)) b (z .entries) r w l h) in omega arith

@@ -16,7 +16,7 @@ use Rattle.zone.specs.Zone as rules
 use Rattle.zone.specs.Zone.{Outcome}
 use Rattle.zone.specs.Meaning.{isFull, keys, zoneOf, allInOrder, formed, listed}
 use Rattle.zone.specs.Promise.{numberOf, refusalOf, Promised}
-use Rattle.zone.specs.Survey.{Surveyed, changed, Decided, Decides, Refuses, Finished}
+use Rattle.zone.specs.Survey.{Found, changed, Decided, Decides, Finished}
 
 -- ---- numbers that are listed
 
@@ -72,6 +72,9 @@ module _ (z : Zone) (n : Octets) (family policy : ℕ) where
       wrong : (m : ℕ) → refusalOf z n family policy ≡ m → ¬ (m ≡ 0) → ⊥
       wrong m q d = d (sym q ∙ e)
 
+  pub passed : (k : ℕ) → k ≡ refusalOf z n family policy → k ≡ 0 → Passed
+  passed k p q = not-refused (sym p ∙ q)
+
   -- the check says 17 exactly when the form fails
   pub says-17 : refusalOf z n family policy ≡ 17 → formed z ≡ false
   says-17 e =
@@ -86,26 +89,31 @@ module _ (z : Zone) (n : Octets) (family policy : ℕ) where
 
 -- ---- from a survey
 
-module _ (n : Octets) (family policy : ℕ) (s : Survey) where
-  formed-is : (z : Zone) → Surveyed z n s → formed z ≡ (s .inorder && s .distinct)
-  unfolding formed
-  formed-is z v = rw (v .found .order-is, v .distinct-is)
+formed-is : (z : Zone) (inorder names : Bool) → length (z .entries) ≡ 64 → inorder ≡ allInOrder (z .entries) → names ≡ distinct (keys (z .entries))
+    → formed z ≡ (inorder && names)
+unfolding formed
+formed-is z inorder names l p q = rw (eq-eqb (length (z .entries)) 64 l, p, q)
 
-  pub refuses-order : s .inorder ≡ false → Refuses n family policy s 17
-  refuses-order q = record { refuses = λ z v. sym (refusal-form z n family policy (formed-is z v ∙ rw q)) }
+module _ (z : Zone) (n : Octets) (family policy : ℕ) (inorder : Bool) (l : length (z .entries) ≡ 64) (p : inorder ≡ allInOrder (z .entries)) where
+  pub refused-order : inorder ≡ false → 17 ≡ refusalOf z n family policy
+  refused-order o = sym (refusal-form z n family policy (formed-is z inorder (distinct (keys (z .entries))) l p refl ∙ rw o))
 
-  pub refuses-names : s .distinct ≡ false → Refuses n family policy s 17
-  refuses-names q = record { refuses = λ z v. sym (refusal-form z n family policy (formed-is z v ∙ rw (q, and-false))) }
+  module _ (names : Bool) (q : names ≡ distinct (keys (z .entries))) where
+    pub refused-names : names ≡ false → 17 ≡ refusalOf z n family policy
+    refused-names d = sym (refusal-form z n family policy (formed-is z inorder names l p q ∙ rw (d, and-false)))
 
-  module _ (p : s .inorder ≡ true) (q : s .distinct ≡ true) where
-    pub refuses-number : listed family policy ≡ false → Refuses n family policy s 18
-    refuses-number l = record { refuses = λ z v. sym (refusal-number z n family policy (formed-is z v ∙ rw (p, q)) l) }
+    module _ (o : inorder ≡ true) (d : names ≡ true) where
+      form : formed z ≡ true
+      form = formed-is z inorder names l p q ∙ rw (o, d)
 
-    pub refuses-name : listed family policy ≡ true → isFull n ≡ false → Refuses n family policy s 11
-    refuses-name l m = record { refuses = λ z v. sym (refusal-name z n family policy (formed-is z v ∙ rw (p, q)) l m) }
+      pub refused-number : listed family policy ≡ false → 18 ≡ refusalOf z n family policy
+      refused-number t = sym (refusal-number z n family policy form t)
 
-    pub refuses-nothing : listed family policy ≡ true → isFull n ≡ true → Refuses n family policy s 0
-    refuses-nothing l m = record { refuses = λ z v. sym (refusal-none z n family policy (formed-is z v ∙ rw (p, q)) l m) }
+      pub refused-name : listed family policy ≡ true → isFull n ≡ false → 11 ≡ refusalOf z n family policy
+      refused-name t m = sym (refusal-name z n family policy form t m)
+
+      pub refused-nothing : listed family policy ≡ true → isFull n ≡ true → 0 ≡ refusalOf z n family policy
+      refused-nothing t m = sym (refusal-none z n family policy form t m)
 
 -- ---- promises
 
@@ -116,19 +124,20 @@ module _ (z : Zone) (n : Octets) (family policy : ℕ) (request : rules.Zone →
   pub promise-refused : (k : ℕ) → k ≡ refusal → ¬ (k ≡ 0) → Promised z refusal (request (zoneOf z)) (record { refusal = k; answer = 0; zone = z })
   promise-refused k e d =
       let m : ¬ (refusal ≡ 0) = λ q. d (e ∙ q) in
-      record { refusal-is = e; answer-is = rw (ne-eqb refusal 0 m); kept = λ q. refl; done = λ q. absurd (m q); formed-again = λ q. absurd (m q) }
+      record { refusalIs = e; answerIs = rw (ne-eqb refusal 0 m); kept = λ q. refl; done = λ q. absurd (m q); formedAgain = λ q. absurd (m q) }
 
-  pub promise-done : (s : Survey) (w : Change) (r : Answered) → length (z .entries) ≡ 64 → refusal ≡ 0 → Surveyed z n s → Decides request n s w → Finished z w r
+  pub promise-done : (s : Survey) (w : Change) (r : Answered) (k : ℕ) → k ≡ refusal → k ≡ 0 → Found z n s → Decides request n s w → Finished z w r
       → Promised z refusal (request (zoneOf z)) r
-  promise-done s w r l e v d f =
+  promise-done s w r k p q v d f =
+      let e : refusal ≡ 0 = sym p ∙ q in
       let g : formed z ≡ true = not-refused z n family policy e .form in
-      let c : Decided z (request (zoneOf z)) w = d .decides z l g v in
+      let c : Decided z (request (zoneOf z)) w = d .decides z g v in
       record {
-        refusal-is = f .refusal-is ∙ sym e;
-        answer-is = f .answer-is ∙ c .answer-is ∙ sym (rw (eq-eqb refusal 0 e));
+        refusalIs = f .refusalIs ∙ sym e;
+        answerIs = f .answerIs ∙ c .answerIs ∙ sym (rw (eq-eqb refusal 0 e));
         kept = λ q. absurd (q e);
         done = λ q. zone c g (ltb (w .place) 64) refl .0;
-        formed-again = λ q. zone c g (ltb (w .place) 64) refl .1;
+        formedAgain = λ q. zone c g (ltb (w .place) 64) refl .1;
       }
     where
       zone : Decided z (request (zoneOf z)) w → formed z ≡ true → (b : Bool) → ltb (w .place) 64 ≡ b → (zoneOf (r .zone) ≡ request (zoneOf z) .zone) × (formed (r .zone) ≡ true)

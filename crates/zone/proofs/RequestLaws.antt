@@ -17,7 +17,7 @@ use Rattle.zone.specs.declared.survey.Zone as place
 use Rattle.zone.specs.Zone.{Host, Zone, GoodHost, Form, put, Update, Policy, Answer, success, YXDOMAIN, NXDOMAIN, NXRRSET, noRoom, Outcome, says, atName, heldBy, empty, address, newHost, left, fits, requestA, requestB, removeAddress, removeName}
 use Rattle.zone.specs.Meaning.{used, keys, look, zoneOf, inOrder, allInOrder, formed}
 use Rattle.zone.proofs.ZoneLaws.{option-case, put-at, put-off, good-add, good-remove, good-left, good-new, form-new, form-change, form-delete, A-new, A-full, A-there, B-absent, B-other, B-full, B-done, remove-address-absent, remove-address-other, remove-address-own, remove-name-absent, remove-name-kept, remove-name-gone}
-use Rattle.zone.proofs.PlaceLaws.{None, formed-both}
+use Rattle.zone.proofs.PlaceLaws.{None, formed-all}
 
 -- ---- every request either succeeds and writes at its name, or changes nothing
 
@@ -175,8 +175,8 @@ unfolding look
 no-look [] h k = refl
 no-look (e ∷ es) h k = rw (h .0) (no-look es (h .1) k)
 
-pub empty-formed : (z : place.Zone) → None used (z .entries) → formed z ≡ true
-empty-formed z h = formed-both z (no-order (z .entries) h) (ap distinct (no-keys (z .entries) h) ∙ distinct-nil)
+pub empty-formed : (z : place.Zone) → length (z .entries) ≡ 64 → None used (z .entries) → formed z ≡ true
+empty-formed z l h = formed-all z l (no-order (z .entries) h) (ap distinct (no-keys (z .entries) h) ∙ distinct-nil)
 
 pub empty-zone : (z : place.Zone) → None used (z .entries) → zoneOf z ≡ record { size = 0; at = λ k. none }
 unfolding zoneOf

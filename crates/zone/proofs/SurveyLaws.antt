@@ -77,6 +77,17 @@ module _ (es : List Entry) (d : Entry) (i : ℕ) (h : i < length es) where
       go true u v = rw (add-one n, take-suc-set prints n print l, append-assoc, e u) v
       go false u v = rw (add-zero n, take-set-le n prints n print (omega arith)) v
 
+  pub print-free : (f : Octets → ℕ) (l : List ℕ) {r : List ℕ} → used it ≡ false → l ++ map f (keys (drop i es)) ≡ r → l ++ map f (keys (drop (i + 1) es)) ≡ r
+  unfolding keys
+  print-free f l u q = let k : keys (drop i es) ≡ keys (drop (i + 1) es) = rw (add-one, drop-cons es i d h, u) in ap (λ (m : List Octets). l ++ map f m) (sym k) ∙ q
+
+  pub named-free : (n : Octets) → used it ≡ false → false ≡ named n it
+  unfolding named
+  named-free n u = rw u
+
+  pub order-free : used it ≡ false → true ≡ cond (used it) (inOrder it) true
+  order-free u = rw u
+
 -- ---- its end
 
 module _ (es : List Entry) (i : ℕ) (h : length es ≤ i) where
@@ -114,10 +125,6 @@ pub getD-any : {A : Type 0} (l : List A) (i : ℕ) (d e : A) → i < length l �
 getD-any [] i d e h = absurd (omega arith)
 getD-any (x ∷ l) zero d e h = refl
 getD-any (x ∷ l) (suc i) d e h = getD-any l i d e (omega arith)
-
-pub one-few : (b : Bool) → one b ≤ 1
-one-few true = omega arith
-one-few false = omega arith
 
 -- ---- name by name
 

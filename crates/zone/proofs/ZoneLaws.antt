@@ -131,15 +131,15 @@ module _ (u : Update) where
 -- ---- hosts in form
 
 good-nothing : (o : Option Octets) → GoodHost (record { owner = o; addresses = λ f. nothing })
-good-nothing o = record { four-a-family = λ f. omega arith; counted = λ f. counts-nothing }
+good-nothing o = record { atMostFour = λ f. omega arith; counted = λ f. counts-nothing }
 
 good-with : (f : Family) (s : Addresses) (h : Host) → s .count ≤ 4 → Counts (s .count) (s .has) → GoodHost h → GoodHost (with f s h)
 unfolding with
-good-with f s h n c g = record { four-a-family = λ e. few (isFamily f e) e; counted = λ e. go (isFamily f e) e }
+good-with f s h n c g = record { atMostFour = λ e. few (isFamily f e) e; counted = λ e. go (isFamily f e) e }
   where
     few : (b : Bool) (e : Family) → cond b s (h .addresses e) .count ≤ 4
     few true e = n
-    few false e = g .four-a-family e
+    few false e = g .atMostFour e
 
     go : (b : Bool) (e : Family) → Counts (cond b s (h .addresses e) .count) (cond b s (h .addresses e) .has)
     go true e = c
@@ -150,13 +150,13 @@ unfolding fits mark
 mark-few u h g r = go (ownFamily u h .has (u .address)) (ltb (ownFamily u h .count) 4) refl r
   where
     go : (v w : Bool) → ltb (ownFamily u h .count) 4 ≡ w → (v || w) ≡ true → (ownFamily u h .count + 1) - one v ≤ 4
-    go true w e r = let n = g .four-a-family (u .family) in omega arith
+    go true w e r = let n = g .atMostFour (u .family) in omega arith
     go false true e r = let n = ltb-true (ownFamily u h .count) 4 e in omega arith
     go false false e r = absurd (true≢false (sym r))
 
 less-few : (u : Update) (h : Host) → GoodHost h → mark (u .address) false (ownFamily u h) .count ≤ 4
 unfolding mark
-less-few u h g = let n = g .four-a-family (u .family) in omega arith
+less-few u h g = let n = g .atMostFour (u .family) in omega arith
 
 pub good-add : (u : Update) (h : Host) → GoodHost h → fits u h ≡ true → GoodHost (address u true h)
 unfolding address

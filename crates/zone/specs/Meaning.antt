@@ -69,9 +69,9 @@ unfoldable pub allInOrder : List Entry → Bool
 allInOrder [] = true
 allInOrder (e ∷ es) = cond (used e) (inOrder e) true && allInOrder es
 
--- Every place is in order, and no two names are equal. That there are at most 64 is the array's length.
+-- There are 64 places, every one is in order, and no two names are equal.
 unfoldable pub formed : Zone → Bool
-formed z = allInOrder (z .entries) && distinct (keys (z .entries))
+formed z = eqb (length (z .entries)) 64 && (allInOrder (z .entries) && distinct (keys (z .entries)))
 
 -- ---- the numbers and structs of a request
 

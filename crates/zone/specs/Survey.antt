@@ -20,7 +20,7 @@ use Rattle.zone.specs.Zone as rules
 use Rattle.zone.specs.Zone.{Host, Update, address, fits, Outcome}
 use Rattle.zone.specs.Meaning.{nameOf, hostOf, used, inOrder, keyOf, keys, allInOrder, zoneOf, formed, familyOf, addressOf}
 use Rattle.zone.specs.declared.request.Answered.{Answered}
-use Rattle.zone.specs.Promise.{numberOf, refusalOf}
+use Rattle.zone.specs.Promise.{numberOf}
 
 -- ---- fingerprints: equal names have equal ones
 
@@ -46,10 +46,10 @@ unfoldable pub named : Octets → Entry → Bool
 named n e = used e && sameName (nameOf (e .name)) n
 
 pub record Looked (n : Octets) (e : Entry) (r : Seen) : Type 0 where
-  pub used-is : r .used ≡ used e
-  pub order-is : r .inorder ≡ cond (used e) (inOrder e) true
-  pub named-is : r .named ≡ named n e
-  pub print-is : used e ≡ true → r .print ≡ printOf (nameOf (e .name))
+  pub usedIs : r .used ≡ used e
+  pub orderIs : r .inorder ≡ cond (used e) (inOrder e) true
+  pub namedIs : r .named ≡ named n e
+  pub printIs : used e ≡ true → r .print ≡ printOf (nameOf (e .name))
 
 -- ---- the places of a zone
 
@@ -59,19 +59,15 @@ placeFrom p i otherwise [] = otherwise
 placeFrom p i otherwise (x ∷ l) = placeFrom p (suc i) (cond (p x) i otherwise) l
 
 pub record Found (z : Zone) (n : Octets) (s : Survey) : Type 0 where
-  pub places-are : length (z .entries) ≡ 64
-  pub order-is : s .inorder ≡ allInOrder (z .entries)
-  pub found-is : s .found ≡ placeFrom (named n) 0 64 (z .entries)
-  pub free-is : s .free ≡ placeFrom (λ (e : Entry). not (used e)) 0 64 (z .entries)
-  pub entry-is : (d : Entry) → s .found < 64 → s .entry ≡ getD (z .entries) (s .found) d
-
-pub record Walked (z : Zone) (n : Octets) (s : Survey) : Type 0 where
-  pub found : Found z n s
-  pub clear : s .distinct ≡ true → distinct (keys (z .entries)) ≡ true
+  pub placesAre : length (z .entries) ≡ 64
+  pub orderIs : s .inorder ≡ allInOrder (z .entries)
+  pub foundIs : s .found ≡ placeFrom (named n) 0 64 (z .entries)
+  pub freeIs : s .free ≡ placeFrom (λ (e : Entry). not (used e)) 0 64 (z .entries)
+  pub entryIs : (d : Entry) → s .found < 64 → s .entry ≡ getD (z .entries) (s .found) d
 
 pub record Surveyed (z : Zone) (n : Octets) (s : Survey) : Type 0 where
-  pub found : Found z n s
-  pub distinct-is : s .distinct ≡ distinct (keys (z .entries))
+  pub places : Found z n s
+  pub clearNames : s .clear ≡ true → distinct (keys (z .entries)) ≡ true
 
 -- ---- what a request comes to: an answer, and one place written, or none where it says 64
 
@@ -79,49 +75,46 @@ abbrev pub changed : Zone → Change → Zone
 changed z w = record { entries = set (z .entries) (w .place) (w .entry) }
 
 pub record Decided (z : Zone) (right : Outcome) (w : Change) : Type 0 where
-  pub answer-is : w .answer ≡ numberOf (right .answer)
+  pub answerIs : w .answer ≡ numberOf (right .answer)
   pub stays : ¬ (w .place < 64) → zoneOf z ≡ right .zone
   pub writes : w .place < 64 → (formed (changed z w) ≡ true) × (zoneOf (changed z w) ≡ right .zone)
 
 -- a request decided on a survey: right for every zone in form that the survey is of
 pub record Decides (request : rules.Zone → Outcome) (n : Octets) (s : Survey) (w : Change) : Type 0 where
-  pub decides : (z : Zone) → length (z .entries) ≡ 64 → formed z ≡ true → Surveyed z n s → Decided z (request (zoneOf z)) w
-
-pub record Refuses (n : Octets) (family policy : ℕ) (s : Survey) (r : ℕ) : Type 0 where
-  pub refuses : (z : Zone) → Surveyed z n s → r ≡ refusalOf z n family policy
+  pub decides : (z : Zone) → formed z ≡ true → Found z n s → Decided z (request (zoneOf z)) w
 
 -- and done
 pub record Finished (z : Zone) (w : Change) (r : Answered) : Type 0 where
-  pub refusal-is : r .refusal ≡ 0
-  pub answer-is : r .answer ≡ w .answer
+  pub refusalIs : r .refusal ≡ 0
+  pub answerIs : r .answer ≡ w .answer
   pub kept : ¬ (w .place < 64) → r .zone ≡ z
   pub wrote : w .place < 64 → r .zone ≡ changed z w
 
 -- an entry r made of e: the same name and kind, in order, and what it means
 pub record Kept (e r : Entry) (h : Host) : Type 0 where
-  pub kind-is : r .kind ≡ e .kind
-  pub name-is : r .name ≡ e .name
-  pub order-is : inOrder r ≡ true
-  pub host-is : hostOf r ≡ h
+  pub kindIs : r .kind ≡ e .kind
+  pub nameIs : r .name ≡ e .name
+  pub orderIs : inOrder r ≡ true
+  pub hostIs : hostOf r ≡ h
 
 -- an entry made for a name
 pub record Fresh (n : Name) (h : Host) (r : Entry) : Type 0 where
-  pub kind-is : r .kind ≡ 2
-  pub name-is : r .name ≡ n
-  pub order-is : inOrder r ≡ true
-  pub host-is : hostOf r ≡ h
+  pub kindIs : r .kind ≡ 2
+  pub nameIs : r .name ≡ n
+  pub orderIs : inOrder r ≡ true
+  pub hostIs : hostOf r ≡ h
 
 -- the update u is about this family and address
 pub record About (family : ℕ) (a : Address) (u : Update) : Type 0 where
-  pub family-is : u .family ≡ familyOf family
-  pub address-is : u .address ≡ addressOf (familyOf family) a
+  pub familyIs : u .family ≡ familyOf family
+  pub addressIs : u .address ≡ addressOf (familyOf family) a
 
 abbrev pub emptied : Host → Host
 emptied h = record { owner = h .owner; addresses = λ f. nothing }
 
 -- room for the address, the entry with it and without it, for every update that is about it
 pub record HasRoom (family : ℕ) (a : Address) (e : Entry) (r : Bool) : Type 0 where
-  pub room-is : (u : Update) → About family a u → r ≡ fits u (hostOf e)
+  pub roomIs : (u : Update) → About family a u → r ≡ fits u (hostOf e)
 
 pub record Joined (family : ℕ) (a : Address) (e r : Entry) : Type 0 where
   pub joins : (u : Update) → About family a u → fits u (hostOf e) ≡ true → Kept e r (address u true (hostOf e))

@@ -27,7 +27,7 @@ there (some a) = true
 -- ---- the form, as far as it shows here: at most 64 names, at most four addresses a family, and the counts count
 
 pub record GoodHost (h : Host) : Type 0 where
-  pub four-a-family : (f : Family) → h .addresses f .count ≤ 4
+  pub atMostFour : (f : Family) → h .addresses f .count ≤ 4
   pub counted : (f : Family) → Counts (h .addresses f .count) (h .addresses f .has)
 
 pub record Form (z : Zone) : Type 0 where

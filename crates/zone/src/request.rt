@@ -13,7 +13,7 @@ ghost use mathlib.Core.Path.{_≡_};
 ghost use Rattle.zone.specs.Zone.{requestA, requestB, removeAddress, removeName};
 ghost use Rattle.zone.specs.Meaning.{nameOf, listed, policyOf, updateOf, zoneOf};
 ghost use Rattle.zone.specs.Promise.{refusalOf, Promised};
-ghost use Rattle.zone.specs.Survey.{Refuses, Finished};
+ghost use Rattle.zone.specs.Survey.{Surveyed, Finished};
 
 // refusal: the number of document 01's table, 0 where there is none. answer: 0 success, 3 NXDOMAIN,
 // 6 YXDOMAIN, 8 NXRRSET, 256 no room.
@@ -38,13 +38,14 @@ fn is_listed(family: u8, policy: u8) -> bool
 }
 
 // The refusal, 0 where there is none.
-fn refusal(s: Survey, n: Name, family: u8, policy: u8) -> u32
-    ensures { λ r. ⌜ Refuses (nameOf n) family policy s r ⌝ }
+fn refusal(z: Zone, s: Survey, n: Name, family: u8, policy: u8) -> u32
+    requires { ⌜ Surveyed z (nameOf n) s ⌝ }
+    ensures { λ r. ⌜ r ≡ refusalOf z (nameOf n) family policy ⌝ }
 {
     if !s.inorder {
         return 17;
     }
-    if !s.distinct {
+    if !survey::names_differ(z, s.clear) {
         return 17;
     }
     if !is_listed(family, policy) {
@@ -57,7 +58,7 @@ fn refusal(s: Survey, n: Name, family: u8, policy: u8) -> u32
 }
 
 // The one function that writes a place.
-fn finish(z: Zone, w: Change) -> Answered
+fn finish(mut z: Zone, w: Change) -> Answered
     ensures { λ r. ⌜ Finished z w r ⌝ }
 {
     if w.place >= 64 {
@@ -69,12 +70,11 @@ fn finish(z: Zone, w: Change) -> Answered
     }
     let at = w.place;
     let e = w.entry;
-    let mut t = z;
-    t.entries[at] = e;
+    z.entries[at] = e;
     Answered {
         refusal: 0,
         answer: w.answer,
-        zone: t,
+        zone: z,
     }
 }
 
@@ -85,7 +85,7 @@ pub extern "C" fn jespurla_zone_check(zone: Zone, name: Name, family: u8, policy
     ensures { λ r. ⌜ r ≡ refusalOf zone (nameOf name) family policy ⌝ }
 {
     let s = survey::survey_of(zone, name);
-    refusal(s, name, family, policy)
+    refusal(zone, s, name, family, policy)
 }
 
 // Request A: adds an absent name with the DHCID and the address.
@@ -100,7 +100,7 @@ pub extern "C" fn jespurla_request_a(
     ensures { λ r. ⌜ Promised zone (refusalOf zone (nameOf name) family 0) (requestA (updateOf name dhcid family address) (zoneOf zone)) r ⌝ }
 {
     let s = survey::survey_of(zone, name);
-    let refused = refusal(s, name, family, 0);
+    let refused = refusal(zone, s, name, family, 0);
     if refused != 0 {
         return Answered {
             refusal: refused,
@@ -125,7 +125,7 @@ pub extern "C" fn jespurla_request_b(
     ensures { λ r. ⌜ Promised zone (refusalOf zone (nameOf name) family policy) (requestB (policyOf policy) (updateOf name dhcid family address) (zoneOf zone)) r ⌝ }
 {
     let s = survey::survey_of(zone, name);
-    let refused = refusal(s, name, family, policy);
+    let refused = refusal(zone, s, name, family, policy);
     if refused != 0 {
         return Answered {
             refusal: refused,
@@ -149,7 +149,7 @@ pub extern "C" fn jespurla_request_remove_address(
     ensures { λ r. ⌜ Promised zone (refusalOf zone (nameOf name) family 0) (removeAddress (updateOf name dhcid family address) (zoneOf zone)) r ⌝ }
 {
     let s = survey::survey_of(zone, name);
-    let refused = refusal(s, name, family, 0);
+    let refused = refusal(zone, s, name, family, 0);
     if refused != 0 {
         return Answered {
             refusal: refused,
@@ -173,7 +173,7 @@ pub extern "C" fn jespurla_request_remove_name(
     ensures { λ r. ⌜ Promised zone (refusalOf zone (nameOf name) family 0) (removeName (updateOf name dhcid family address) (zoneOf zone)) r ⌝ }
 {
     let s = survey::survey_of(zone, name);
-    let refused = refusal(s, name, family, 0);
+    let refused = refusal(zone, s, name, family, 0);
     if refused != 0 {
         return Answered {
             refusal: refused,

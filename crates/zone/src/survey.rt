@@ -5,34 +5,28 @@ use crate::name;
 use crate::name::Name;
 use crate::print;
 ghost use mathlib.Core.Path.{_≡_};
-ghost use mathlib.Core.Bool.{cond, _&&_, not};
+ghost use mathlib.Core.Bool.{true, cond, _&&_};
 ghost use lib.ListN.{drop};
 ghost use Prim.Native.Nat.{_≤_, _<_};
 ghost use Rattle.dname.specs.Name.{key};
-ghost use Rattle.hosts.specs.Addresses.{one};
 ghost use Rattle.hosts.specs.Count.{distinct, member};
 ghost use Rattle.zone.specs.Meaning.{nameOf, keys, formed};
-ghost use Rattle.zone.specs.Survey.{Walked, Surveyed};
+ghost use Rattle.zone.specs.Survey.{Surveyed};
 
 #[repr(C)]
 pub struct Zone {
     pub entries: [Entry; 64],
 }
 
-// inorder: every place is in order. distinct: no two names are equal. found: the place of the wanted
-// name, and free: a free place, each 64 where there is none. entry: what stands at the place found.
+// inorder: every place is in order. clear: no two fingerprints are equal, so no two names are.
+// found: the place of the wanted name, and free: a free place, each 64 where there is none.
+// entry: what stands at the place found.
 pub(crate) struct Survey {
     pub inorder: bool,
-    pub distinct: bool,
+    pub clear: bool,
     pub found: usize,
     pub free: usize,
     pub entry: Entry,
-}
-
-fn one(b: bool) -> usize
-    ensures { λ r. ⌜ r ≡ one b ⌝ }
-{
-    if b { 1 } else { 0 }
 }
 
 fn both(a: bool, b: bool) -> bool
@@ -49,8 +43,8 @@ fn choose(b: bool, x: usize, y: usize) -> usize
 
 // The one walk over all places. It tells names apart by their fingerprints: where two of those are
 // equal, two names may be.
-fn walk(z: Zone, wanted: Name) -> Survey
-    ensures { λ r. ⌜ Walked z (nameOf wanted) r ⌝ }
+pub(crate) fn survey_of(z: Zone, wanted: Name) -> Survey
+    ensures { λ r. ⌜ Surveyed z (nameOf wanted) r ⌝ }
 {
     let print = name::print(wanted);
     let mut prints = [0u64; 64];
@@ -60,21 +54,26 @@ fn walk(z: Zone, wanted: Name) -> Survey
     let mut free: usize = 64;
     let mut i: usize = 0;
     while i < 64 {
-        let e = z.entries[i];
-        let seen = entry::look(e, wanted, print);
-        prints[used] = seen.print;
-        used = used + one(seen.used);
-        inorder = both(inorder, seen.inorder);
-        found = choose(seen.named, i, found);
-        free = choose(seen.used, free, i);
-        i += 1;
+        let kind = z.entries[i].kind;
+        if kind == 0 {
+            free = i;
+            i += 1;
+        } else {
+            let e = z.entries[i];
+            let seen = entry::look(e, wanted, print);
+            prints[used] = seen.print;
+            used += 1;
+            inorder = both(inorder, seen.inorder);
+            found = choose(seen.named, i, found);
+            i += 1;
+        }
     }
     let repeats = print::repeats(&prints[..used]);
     let at = choose(found < 64, found, 0);
     let e = z.entries[at];
     Survey {
         inorder: inorder,
-        distinct: !repeats,
+        clear: !repeats,
         found: found,
         free: free,
         entry: e,
@@ -97,7 +96,7 @@ fn named_from(z: Zone, n: Name, from: usize) -> bool
     false
 }
 
-// Whether no two names are equal, name by name: asked only where two fingerprints are equal.
+// Whether no two names are equal, name by name.
 fn distinct_names(z: Zone) -> bool
     ensures { λ r. ⌜ r ≡ distinct (keys (z .entries)) ⌝ }
 {
@@ -115,16 +114,13 @@ fn distinct_names(z: Zone) -> bool
     true
 }
 
-// What the places of a zone come to.
-pub(crate) fn survey_of(z: Zone, wanted: Name) -> Survey
-    ensures { λ r. ⌜ Surveyed z (nameOf wanted) r ⌝ }
+// Whether no two names are equal. The places are read again only where two fingerprints are equal.
+pub(crate) fn names_differ(z: Zone, clear: bool) -> bool
+    requires { ⌜ (clear ≡ true → distinct (keys (z .entries)) ≡ true) ⌝ }
+    ensures { λ r. ⌜ r ≡ distinct (keys (z .entries)) ⌝ }
 {
-    let s = walk(z, wanted);
-    if s.distinct {
-        return s;
+    if clear {
+        return true;
     }
-    let distinct = distinct_names(z);
-    let mut t = s;
-    t.distinct = distinct;
-    t
+    distinct_names(z)
 }

@@ -34,7 +34,7 @@ unfolding updateOf
 returns-3 c =
     let s = c .before .before .before .before .before .before .before .before .args in
     let o = sym (c .before .before .before .before .is-held .ensures) ∙ not-false _ (c .before .before .before .if2 .left) in
-    let r = sym (c .before .has-room .ensures .room-is _ (about (s .n) (s .d) (s .family) (s .a))) ∙ not-true _ (c .if3 .taken) in
+    let r = sym (c .before .has-room .ensures .roomIs _ (about (s .n) (s .d) (s .family) (s .a))) ∙ not-true _ (c .if3 .taken) in
     b-full (s .s) (s .n) (s .d) (s .family) (s .a) (s .policy) (c .before .before .leave .result) (c .before .before .before .before .before .if1 .left) o (c .before .before .leave .ensures) _ r
 
 join-requires : tie.Need-join-requires
@@ -46,7 +46,7 @@ returns-4 c =
     let s = c .before .before .before .before .before .before .before .before .before .args in
     let b = about (s .n) (s .d) (s .family) (s .a) in
     let o = sym (c .before .before .before .before .before .is-held .ensures) ∙ not-false _ (c .before .before .before .before .if2 .left) in
-    let r = sym (c .before .before .has-room .ensures .room-is _ b) ∙ not-false _ (c .before .if3 .left) in
+    let r = sym (c .before .before .has-room .ensures .roomIs _ b) ∙ not-false _ (c .before .if3 .left) in
     b-done (s .s) (s .n) (s .d) (s .family) (s .a) (s .policy) (c .before .before .before .leave .result) (c .before .before .before .before .before .before .if1 .left) o (c .before .before .before .leave .ensures) _ r (c .join .ensures .joins _ b r)
 
 pub add-address-spec : {M : Type 1} → statement M

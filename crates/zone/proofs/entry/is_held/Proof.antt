@@ -1,14 +1,11 @@
-use mathlib.Core.Path.{_≡_}
-use borrow.Author.Tests.{eq-eqb, ne-eqb}
-use Rattle.zone.specs.Zone.{heldBy}
-use Rattle.zone.specs.Meaning.{hostOf}
+use mathlib.Core.Path.{sym, _∙_}
+use Rattle.zone.proofs.HostLaws.{held-static, held-other}
 use borrow.Author.Needs.{needs}
 use Rattle.zone.proofs.entry.is_held.Statement.{statement}
 use Rattle.zone.proofs.entry.is_held.Tie as tie
 
 returns : tie.Need-returns
-unfolding hostOf heldBy
-returns c = simp (eq-eqb _ _ (c .if1 .taken))
+returns c = sym (held-static _ _ (c .if1 .taken))
 
 slice-aggregate-same : tie.Need-slice-aggregate-same
 slice-aggregate-same c = search needs
@@ -20,8 +17,7 @@ same-requires : tie.Need-same-requires
 same-requires c κs = search needs
 
 returns-2 : tie.Need-returns-2
-unfolding hostOf heldBy
-returns-2 c = simp (ne-eqb _ _ (c .before .before .before .before .before .before .if1 .left)) (c .same .ensures)
+returns-2 c = c .same .ensures ∙ sym (held-other _ _ (c .before .before .before .before .before .before .if1 .left))
 
 pub is-held-spec : {M : Type 1} → statement M
 is-held-spec =

@@ -15,7 +15,7 @@ returns : tie.Need-returns
 unfolding used named
 returns c =
     let k = eq-eqb _ _ (c .if1 .taken) in
-    record { used-is = rw k; order-is = rw k; named-is = rw k; print-is = λ t. let z : _≡_ {A = Bool} false true = sym (rw k) ∙ t in cc }
+    record { usedIs = rw k; orderIs = rw k; namedIs = rw k; printIs = λ t. let z : _≡_ {A = Bool} false true = sym (rw k) ∙ t in cc }
 
 print-requires : tie.Need-print-requires
 print-requires c κs = search needs
@@ -30,7 +30,7 @@ returns-2 c =
     let k = ne-eqb _ _ (c .before .before .before .before .if1 .left) in
     let p = c .before .before .print .ensures in
     let d = print-differ (nameOf (s .args .e .name)) (nameOf (s .args .wanted)) (λ q. c .if2 .taken (p ∙ q ∙ sym (s .pre))) in
-    record { used-is = rw k; order-is = rw k (c .before .in-order .ensures); named-is = rw (k, d); print-is = λ t. p }
+    record { usedIs = rw k; orderIs = rw k (c .before .in-order .ensures); namedIs = rw (k, d); printIs = λ t. p }
 
 same-requires : tie.Need-same-requires
 same-requires c κs = search needs
@@ -39,7 +39,7 @@ returns-3 : tie.Need-returns-3
 unfolding used named
 returns-3 c =
     let k = ne-eqb _ _ (c .before .before .before .before .before .if1 .left) in
-    record { used-is = rw k; order-is = rw k (c .before .before .in-order .ensures); named-is = rw k (c .same .ensures); print-is = λ t. c .before .before .before .print .ensures }
+    record { usedIs = rw k; orderIs = rw k (c .before .before .in-order .ensures); namedIs = rw k (c .same .ensures); printIs = λ t. c .before .before .before .print .ensures }
 
 pub look-spec : {M : Type 1} → statement M
 look-spec =

@@ -1,7 +1,6 @@
-use mathlib.Core.Path.{sym, _∙_}
 use Rattle.zone.specs.Zone.{requestA}
 use Rattle.zone.specs.Meaning.{nameOf, updateOf}
-use Rattle.zone.proofs.PromiseLaws.{not-refused, promise-refused, promise-done}
+use Rattle.zone.proofs.PromiseLaws.{passed, promise-refused, promise-done}
 use borrow.Author.Needs.{needs}
 use Rattle.zone.proofs.request.jespurla_request_a.Statement.{statement}
 use Rattle.zone.proofs.request.jespurla_request_a.Tie as tie
@@ -15,13 +14,12 @@ refusal-requires c κs = search needs
 returns : tie.Need-returns
 returns c =
     let s = c .before .before .before in
-    promise-refused (s .args .zone) (nameOf (s .args .name)) (s .args .family) 0 (requestA (updateOf (s .args .name) (s .args .dhcid) (s .args .family) (s .args .address))) _ (c .before .refusal .ensures .refuses _ (c .before .before .survey-of .ensures)) (c .if1 .taken)
+    promise-refused (s .args .zone) (nameOf (s .args .name)) (s .args .family) 0 (requestA (updateOf (s .args .name) (s .args .dhcid) (s .args .family) (s .args .address))) _ (c .before .refusal .ensures) (c .if1 .taken)
 
 add-name-requires : tie.Need-add-name-requires
 add-name-requires c κs =
     let s = c .before .before .before in
-    let v = c .before .before .survey-of .ensures in
-    not-refused (s .args .zone) (nameOf (s .args .name)) (s .args .family) 0 (sym (c .before .refusal .ensures .refuses _ v) ∙ c .if1 .left) .name
+    passed (s .args .zone) (nameOf (s .args .name)) (s .args .family) 0 _ (c .before .refusal .ensures) (c .if1 .left) .name
 
 finish-requires : tie.Need-finish-requires
 finish-requires c κs = search needs
@@ -30,7 +28,7 @@ returns-2 : tie.Need-returns-2
 returns-2 c =
     let s = c .before .before .before .before .before in
     let v = c .before .before .before .before .survey-of .ensures in
-    promise-done (s .args .zone) (nameOf (s .args .name)) (s .args .family) 0 (requestA (updateOf (s .args .name) (s .args .dhcid) (s .args .family) (s .args .address))) _ _ _ (v .found .places-are) (sym (c .before .before .before .refusal .ensures .refuses _ v) ∙ c .before .before .if1 .left) v (c .before .add-name .ensures) (c .finish .ensures)
+    promise-done (s .args .zone) (nameOf (s .args .name)) (s .args .family) 0 (requestA (updateOf (s .args .name) (s .args .dhcid) (s .args .family) (s .args .address))) _ _ _ _ (c .before .before .before .refusal .ensures) (c .before .before .if1 .left) (v .places) (c .before .add-name .ensures) (c .finish .ensures)
 
 pub jespurla-request-a-spec : {M : Type 1} → statement M
 jespurla-request-a-spec =

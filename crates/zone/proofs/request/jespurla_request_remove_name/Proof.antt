@@ -1,4 +1,3 @@
-use mathlib.Core.Path.{sym, _∙_}
 use Rattle.zone.specs.Zone.{removeName}
 use Rattle.zone.specs.Meaning.{nameOf, updateOf}
 use Rattle.zone.proofs.PromiseLaws.{promise-refused, promise-done}
@@ -15,7 +14,7 @@ refusal-requires c κs = search needs
 returns : tie.Need-returns
 returns c =
     let s = c .before .before .before in
-    promise-refused (s .args .zone) (nameOf (s .args .name)) (s .args .family) 0 (removeName (updateOf (s .args .name) (s .args .dhcid) (s .args .family) (s .args .address))) _ (c .before .refusal .ensures .refuses _ (c .before .before .survey-of .ensures)) (c .if1 .taken)
+    promise-refused (s .args .zone) (nameOf (s .args .name)) (s .args .family) 0 (removeName (updateOf (s .args .name) (s .args .dhcid) (s .args .family) (s .args .address))) _ (c .before .refusal .ensures) (c .if1 .taken)
 
 remove-name-requires : tie.Need-remove-name-requires
 remove-name-requires c κs = search needs
@@ -27,7 +26,7 @@ returns-2 : tie.Need-returns-2
 returns-2 c =
     let s = c .before .before .before .before .before in
     let v = c .before .before .before .before .survey-of .ensures in
-    promise-done (s .args .zone) (nameOf (s .args .name)) (s .args .family) 0 (removeName (updateOf (s .args .name) (s .args .dhcid) (s .args .family) (s .args .address))) _ _ _ (v .found .places-are) (sym (c .before .before .before .refusal .ensures .refuses _ v) ∙ c .before .before .if1 .left) v (c .before .remove-name .ensures) (c .finish .ensures)
+    promise-done (s .args .zone) (nameOf (s .args .name)) (s .args .family) 0 (removeName (updateOf (s .args .name) (s .args .dhcid) (s .args .family) (s .args .address))) _ _ _ _ (c .before .before .before .refusal .ensures) (c .before .before .if1 .left) (v .places) (c .before .remove-name .ensures) (c .finish .ensures)
 
 pub jespurla-request-remove-name-spec : {M : Type 1} → statement M
 jespurla-request-remove-name-spec =
