@@ -164,16 +164,16 @@ unrefused z j f n l = rw (f, n, l) refl
 
 module _ (z : Zone) (j : Job) (r : Stepped) (p : StepPromise z j r) (e : r .refusal ≡ 0) where
   none : stepRefusal z j ≡ 0
-  none = sym (p .refusal-is) ∙ e
+  none = sym (p .refusalIs) ∙ e
 
   pub zone-after : zoneOf (r .zone) ≡ step (jobOf j .arguments) (zoneOf z) (jobOf j .stage) .zone
   unfolding jobOf
-  zone-after = p .zone-is none
+  zone-after = p .zoneIs none
 
   pub job-after : jobOf (r .job) ≡ record { arguments = jobOf j .arguments; stage = step (jobOf j .arguments) (zoneOf z) (jobOf j .stage) .stage }
   unfolding jobOf
   job-after =
-      ap (λ (k : Job). jobOf k) (p .job-is none)
+      ap (λ (k : Job). jobOf k) (p .jobIs none)
       ∙ (λ i. record { arguments = arguments-same z j (listed-of z j none) i; stage = back i })
     where
       back : stageOf (atStage j (stepOf z j .stage) .stage) (atStage j (stepOf z j .stage) .count) ≡ stepOf z j .stage

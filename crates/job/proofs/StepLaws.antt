@@ -84,13 +84,13 @@ module _ (z : Zone) (j : Job) where
       → numbersListed j ≡ true → listed (j .family) p ≡ true → stepOf z j ≡ goesOn o rule
       → Promised z (refusalOf z (nameOf (j .name)) (j .family) p) o sent → Leads j (sent .answer) rule next → Carried sent j next r → StepPromise z j r
   step-kept p o rule sent next r h l s m leads c = record {
-    refusal-is = c .refusal-is ∙ k .refusal-is;
-    zone-kept = λ n. c .zone-is ∙ k .kept n;
-    job-kept = λ n. c .job-is ∙ ap (λ (b : Bool). cond b next j) (ne-eqb (sent .refusal) 0 (λ e. n (sym (k .refusal-is) ∙ e)));
-    zone-is = λ e. ap zoneOf (c .zone-is) ∙ k .done e ∙ ap (λ (w : State). w .zone) (sym s);
-    formed-again = λ e. ap formed (c .zone-is) ∙ k .formed-again e;
-    job-is = λ e. c .job-is ∙ ap (λ (b : Bool). cond b next j) (eq-eqb (sent .refusal) 0 (k .refusal-is ∙ e))
-        ∙ leads (o .answer) (k .answer-is ∙ ap (λ (b : Bool). cond b (numberOf (o .answer)) 0) (eq-eqb (stepRefusal z j) 0 e))
+    refusalIs = c .refusalIs ∙ k .refusalIs;
+    zoneKept = λ n. c .zoneIs ∙ k .kept n;
+    jobKept = λ n. c .jobIs ∙ ap (λ (b : Bool). cond b next j) (ne-eqb (sent .refusal) 0 (λ e. n (sym (k .refusalIs) ∙ e)));
+    zoneIs = λ e. ap zoneOf (c .zoneIs) ∙ k .done e ∙ ap (λ (w : State). w .zone) (sym s);
+    formedAgain = λ e. ap formed (c .zoneIs) ∙ k .formedAgain e;
+    jobIs = λ e. c .jobIs ∙ ap (λ (b : Bool). cond b next j) (eq-eqb (sent .refusal) 0 (k .refusalIs ∙ e))
+        ∙ leads (o .answer) (k .answerIs ∙ ap (λ (b : Bool). cond b (numberOf (o .answer)) 0) (eq-eqb (stepRefusal z j) 0 e))
         ∙ ap (λ (w : State). atStage j (w .stage)) (sym s);
   }
     where
@@ -122,24 +122,24 @@ module _ (z : Zone) (j : Job) where
   refused-form f =
       let e : 17 ≡ stepRefusal z j = unfold stepRefusal in rw f refl in
       record {
-        refusal-is = e;
-        zone-kept = λ n. refl;
-        job-kept = λ n. refl;
-        zone-is = λ q. absurd (omega arith);
-        formed-again = λ q. absurd (omega arith);
-        job-is = λ q. absurd (omega arith);
+        refusalIs = e;
+        zoneKept = λ n. refl;
+        jobKept = λ n. refl;
+        zoneIs = λ q. absurd (omega arith);
+        formedAgain = λ q. absurd (omega arith);
+        jobIs = λ q. absurd (omega arith);
       }
 
   pub refused-numbers : formed z ≡ true → numbersListed j ≡ false → StepPromise z j (record { refusal = 18; zone = z; job = j })
   refused-numbers f h =
       let e : 18 ≡ stepRefusal z j = unfold stepRefusal in rw (f, h) refl in
       record {
-        refusal-is = e;
-        zone-kept = λ n. refl;
-        job-kept = λ n. refl;
-        zone-is = λ q. absurd (omega arith);
-        formed-again = λ q. absurd (omega arith);
-        job-is = λ q. absurd (omega arith);
+        refusalIs = e;
+        zoneKept = λ n. refl;
+        jobKept = λ n. refl;
+        zoneIs = λ q. absurd (omega arith);
+        formedAgain = λ q. absurd (omega arith);
+        jobIs = λ q. absurd (omega arith);
       }
 
 -- ---- a job that has ended
@@ -153,8 +153,8 @@ record Over (s n : ℕ) : Type 0 where
 over : (s n : ℕ) → canHave s n ≡ true → Idle s → Over s n
 unfolding stageOf stageNumber stageCount
 over zero n c i = absurd (true≢false (sym c ∙ can-nothing n))
-over (suc zero) n c i = absurd (i .not-a refl)
-over (suc (suc zero)) n c i = absurd (i .not-b refl)
+over (suc zero) n c i = absurd (i .notA refl)
+over (suc (suc zero)) n c i = absurd (i .notB refl)
 over (suc (suc (suc zero))) n c i = record { end = done n; is = refl; number = refl; count = refl }
 over (suc (suc (suc (suc zero)))) n c i = record { end = conflict n; is = refl; number = refl; count = refl }
 over (suc (suc (suc (suc (suc zero))))) n c i = record { end = noRoom n; is = refl; number = refl; count = refl }
@@ -163,8 +163,8 @@ over (suc (suc (suc (suc (suc (suc (suc zero))))))) n c i = absurd (true≢false
 over (suc (suc (suc (suc (suc (suc (suc (suc zero)))))))) n c i = absurd (true≢false (sym c ∙ can-low 8 n (omega arith) (omega arith)))
 over (suc (suc (suc (suc (suc (suc (suc (suc (suc zero))))))))) n c i = absurd (true≢false (sym c ∙ can-low 9 n (omega arith) (omega arith)))
 over (suc (suc (suc (suc (suc (suc (suc (suc (suc (suc zero)))))))))) n c i = absurd (true≢false (sym c ∙ can-low 10 n (omega arith) (omega arith)))
-over (suc (suc (suc (suc (suc (suc (suc (suc (suc (suc (suc zero))))))))))) n c i = absurd (i .not-first refl)
-over (suc (suc (suc (suc (suc (suc (suc (suc (suc (suc (suc (suc zero)))))))))))) n c i = absurd (i .not-second refl)
+over (suc (suc (suc (suc (suc (suc (suc (suc (suc (suc (suc zero))))))))))) n c i = absurd (i .notFirst refl)
+over (suc (suc (suc (suc (suc (suc (suc (suc (suc (suc (suc (suc zero)))))))))))) n c i = absurd (i .notSecond refl)
 over (suc (suc (suc (suc (suc (suc (suc (suc (suc (suc (suc (suc (suc zero))))))))))))) n c i = record { end = notOurs; is = refl; number = refl; count = refl }
 over (suc (suc (suc (suc (suc (suc (suc (suc (suc (suc (suc (suc (suc (suc zero)))))))))))))) n c i = record { end = gone; is = refl; number = refl; count = refl }
 over (suc (suc (suc (suc (suc (suc (suc (suc (suc (suc (suc (suc (suc (suc (suc zero))))))))))))))) n c i = record { end = kept; is = refl; number = refl; count = refl }
@@ -174,12 +174,12 @@ over (suc (suc (suc (suc (suc (suc (suc (suc (suc (suc (suc (suc (suc (suc (suc 
 pub step-idle : (z : Zone) (j : Job) (refusal : ℕ) → numbersListed j ≡ true → Idle (j .stage) → refusal ≡ refusalOf z (nameOf (j .name)) (j .family) 0
     → StepPromise z j (record { refusal = refusal; zone = z; job = j })
 step-idle z j refusal h i e = record {
-  refusal-is = e ∙ same;
-  zone-kept = λ n. refl;
-  job-kept = λ n. refl;
-  zone-is = λ q. sym (ap (λ (w : State). w .zone) stays);
-  formed-again = λ q. formed-is q;
-  job-is = λ q. same-job ∙ ap (λ (w : State). atStage j (w .stage)) (sym stays);
+  refusalIs = e ∙ same;
+  zoneKept = λ n. refl;
+  jobKept = λ n. refl;
+  zoneIs = λ q. sym (ap (λ (w : State). w .zone) stays);
+  formedAgain = λ q. formed-is q;
+  jobIs = λ q. same-job ∙ ap (λ (w : State). atStage j (w .stage)) (sym stays);
 }
   where
     same : refusalOf z (nameOf (j .name)) (j .family) 0 ≡ stepRefusal z j

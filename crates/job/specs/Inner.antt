@@ -29,13 +29,13 @@ Leads j number rule r = (a : Answer) → number ≡ numberOf a → r ≡ atStage
 
 -- What a request came to, and the next job unless it was refused.
 pub record Carried (sent : Answered) (j next : Job) (r : Stepped) : Type 0 where
-  pub refusal-is : r .refusal ≡ sent .refusal
-  pub zone-is : r .zone ≡ sent .zone
-  pub job-is : r .job ≡ cond (eqb (sent .refusal) 0) next j
+  pub refusalIs : r .refusal ≡ sent .refusal
+  pub zoneIs : r .zone ≡ sent .zone
+  pub jobIs : r .job ≡ cond (eqb (sent .refusal) 0) next j
 
 -- The number of no stage that sends a request.
 pub record Idle (stage : ℕ) : Type 0 where
-  pub not-a : stage ≡ 1 → ⊥
-  pub not-b : stage ≡ 2 → ⊥
-  pub not-first : stage ≡ 11 → ⊥
-  pub not-second : stage ≡ 12 → ⊥
+  pub notA : stage ≡ 1 → ⊥
+  pub notB : stage ≡ 2 → ⊥
+  pub notFirst : stage ≡ 11 → ⊥
+  pub notSecond : stage ≡ 12 → ⊥

@@ -42,9 +42,9 @@ stepOf z j = step (argumentsOf j) (zoneOf z) (stageOf (j .stage) (j .count))
 -- A refused step hands back the very same zone and job. Any other hands back the rules' zone, in good form, at whichever places its names
 -- stand, and the same job at the rules' stage.
 pub record StepPromise (z : Zone) (j : Job) (r : Stepped) : Type 0 where
-  pub refusal-is : r .refusal ≡ stepRefusal z j
-  pub zone-kept : ¬ (stepRefusal z j ≡ 0) → r .zone ≡ z
-  pub job-kept : ¬ (stepRefusal z j ≡ 0) → r .job ≡ j
-  pub zone-is : stepRefusal z j ≡ 0 → zoneOf (r .zone) ≡ stepOf z j .zone
-  pub formed-again : stepRefusal z j ≡ 0 → formed (r .zone) ≡ true
-  pub job-is : stepRefusal z j ≡ 0 → r .job ≡ atStage j (stepOf z j .stage)
+  pub refusalIs : r .refusal ≡ stepRefusal z j
+  pub zoneKept : ¬ (stepRefusal z j ≡ 0) → r .zone ≡ z
+  pub jobKept : ¬ (stepRefusal z j ≡ 0) → r .job ≡ j
+  pub zoneIs : stepRefusal z j ≡ 0 → zoneOf (r .zone) ≡ stepOf z j .zone
+  pub formedAgain : stepRefusal z j ≡ 0 → formed (r .zone) ≡ true
+  pub jobIs : stepRefusal z j ≡ 0 → r .job ≡ atStage j (stepOf z j .stage)

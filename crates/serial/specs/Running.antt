@@ -2,7 +2,6 @@
 use mathlib.Core.Path.{_≡_}
 use mathlib.Core.Bool.{true}
 use Prim.Native.Nat.{ℕ}
-use lib.ListN.{length}
 use Rattle.zone.specs.declared.name.Name.{Name}
 use Rattle.zone.specs.declared.entry.Dhcid.{Dhcid}
 use Rattle.zone.specs.declared.entry.Address.{Address}
@@ -17,16 +16,11 @@ use Rattle.job.specs.Meaning.{jobOf}
 use Rattle.job.specs.Promise.{AddPromise, RemovePromise, StepPromise}
 use Rattle.serial.specs.Demand.{Calls, Demand3, Stronger, LeftOutIdle, EndsInTime, NeverRefused, SixAtMost}
 
--- A zone that is not refusal 17. That its array has 64 places is its type's; here it is said.
-pub record FormedZone (z : Zone) : Type 0 where
-  pub places : length (z .entries) ≡ 64
-  pub form : formed z ≡ true
-
 -- A new job call that was not refused: what it was given, and the job that it gave. The contracts of the two calls are all that is known.
 pub data NewCall : Arguments → Job → Type 0 where
-  new-add : (n : Name) (d : Dhcid) (family : ℕ) (a : Address) (policy : ℕ) (r : NewJob) → AddPromise n d family a policy r → r .refusal ≡ 0
+  newAdd : (n : Name) (d : Dhcid) (family : ℕ) (a : Address) (policy : ℕ) (r : NewJob) → AddPromise n d family a policy r → r .refusal ≡ 0
       → NewCall (record { kind = add; update = updateOf n d family a; policy = policyOf policy }) (r .job)
-  new-remove : (n : Name) (d : Dhcid) (family : ℕ) (a : Address) (r : NewJob) → RemovePromise n d family a r → r .refusal ≡ 0
+  newRemove : (n : Name) (d : Dhcid) (family : ℕ) (a : Address) (r : NewJob) → RemovePromise n d family a r → r .refusal ≡ 0
       → NewCall (record { kind = remove; update = updateOf n d family a; policy = keepOthers }) (r .job)
 
 abbrev pub running : Calls
@@ -39,7 +33,7 @@ running = record {
   refusal = λ (r : Stepped). r .refusal;
   zone = λ (r : Stepped). r .zone;
   job = λ (r : Stepped). r .job;
-  Formed = FormedZone;
+  Formed = λ (z : Zone). formed z ≡ true;
   New = NewCall;
   Step = StepPromise;
 }
@@ -48,7 +42,7 @@ running = record {
 pub record Delivered : Type 0 where
   pub demand3 : Demand3 running
   pub stronger : Stronger running
-  pub left-out-idle : LeftOutIdle running
-  pub ends-in-time : EndsInTime running
-  pub never-refused : NeverRefused running
-  pub six-at-most : SixAtMost running
+  pub leftOutIdle : LeftOutIdle running
+  pub endsInTime : EndsInTime running
+  pub neverRefused : NeverRefused running
+  pub sixAtMost : SixAtMost running
