@@ -153,8 +153,8 @@ record Over (s n : ℕ) : Type 0 where
 over : (s n : ℕ) → canHave s n ≡ true → Idle s → Over s n
 unfolding stageOf stageNumber stageCount
 over zero n c i = absurd (true≢false (sym c ∙ can-nothing n))
-over (suc zero) n c i = absurd (i .not-a refl)
-over (suc (suc zero)) n c i = absurd (i .not-b refl)
+over (suc zero) n c i = absurd (i .notA refl)
+over (suc (suc zero)) n c i = absurd (i .notB refl)
 over (suc (suc (suc zero))) n c i = record { end = done n; is = refl; number = refl; count = refl }
 over (suc (suc (suc (suc zero)))) n c i = record { end = conflict n; is = refl; number = refl; count = refl }
 over (suc (suc (suc (suc (suc zero))))) n c i = record { end = noRoom n; is = refl; number = refl; count = refl }
@@ -163,8 +163,8 @@ over (suc (suc (suc (suc (suc (suc (suc zero))))))) n c i = absurd (true≢false
 over (suc (suc (suc (suc (suc (suc (suc (suc zero)))))))) n c i = absurd (true≢false (sym c ∙ can-low 8 n (omega arith) (omega arith)))
 over (suc (suc (suc (suc (suc (suc (suc (suc (suc zero))))))))) n c i = absurd (true≢false (sym c ∙ can-low 9 n (omega arith) (omega arith)))
 over (suc (suc (suc (suc (suc (suc (suc (suc (suc (suc zero)))))))))) n c i = absurd (true≢false (sym c ∙ can-low 10 n (omega arith) (omega arith)))
-over (suc (suc (suc (suc (suc (suc (suc (suc (suc (suc (suc zero))))))))))) n c i = absurd (i .not-first refl)
-over (suc (suc (suc (suc (suc (suc (suc (suc (suc (suc (suc (suc zero)))))))))))) n c i = absurd (i .not-second refl)
+over (suc (suc (suc (suc (suc (suc (suc (suc (suc (suc (suc zero))))))))))) n c i = absurd (i .notFirst refl)
+over (suc (suc (suc (suc (suc (suc (suc (suc (suc (suc (suc (suc zero)))))))))))) n c i = absurd (i .notSecond refl)
 over (suc (suc (suc (suc (suc (suc (suc (suc (suc (suc (suc (suc (suc zero))))))))))))) n c i = record { end = notOurs; is = refl; number = refl; count = refl }
 over (suc (suc (suc (suc (suc (suc (suc (suc (suc (suc (suc (suc (suc (suc zero)))))))))))))) n c i = record { end = gone; is = refl; number = refl; count = refl }
 over (suc (suc (suc (suc (suc (suc (suc (suc (suc (suc (suc (suc (suc (suc (suc zero))))))))))))))) n c i = record { end = kept; is = refl; number = refl; count = refl }

@@ -35,7 +35,7 @@ pub record Carried (sent : Answered) (j next : Job) (r : Stepped) : Type 0 where
 
 -- The number of no stage that sends a request.
 pub record Idle (stage : ℕ) : Type 0 where
-  pub not-a : stage ≡ 1 → ⊥
-  pub not-b : stage ≡ 2 → ⊥
-  pub not-first : stage ≡ 11 → ⊥
-  pub not-second : stage ≡ 12 → ⊥
+  pub notA : stage ≡ 1 → ⊥
+  pub notB : stage ≡ 2 → ⊥
+  pub notFirst : stage ≡ 11 → ⊥
+  pub notSecond : stage ≡ 12 → ⊥

@@ -99,7 +99,7 @@ step j z (ended e) = record { zone = z; stage = ended e }
 
 -- A whole job sends its requests until it has ended: from a zone and a stage to a zone and its end.
 pub data Sends (j : Arguments) : Zone → Stage → Zone → End → Type 0 where
-  has-ended : {z : Zone} {e : End} → Sends j z (ended e) z e
+  hasEnded : {z : Zone} {e : End} → Sends j z (ended e) z e
   sends : {z y : Zone} {s : Stage} {e : End} → Sends j (step j z s .zone) (step j z s .stage) y e → Sends j z s y e
 
 -- The count that an add reports.

@@ -12,8 +12,8 @@ use Rattle.hosts.specs.Count.{Octets, member, distinct, Counts}
 use Rattle.hosts.specs.Addresses.{Family, four, six, Addresses, nothing, mark}
 use Rattle.hosts.proofs.CountLaws.{counts-nothing, counts-list}
 use Rattle.zone.specs.Zone.{Host, Zone, there, GoodHost, Form, with, put, Update, keepOthers, heldBy, empty, address, requestA, requestB, removeAddress, removeName}
-use Rattle.job.specs.Jobs.{add, remove, Arguments, End, conflict, gone, ended, Job, fresh, after, afterFirst, afterSecond, step, Sends, has-ended, sends}
-use Rattle.serial.specs.Demand.{Calls, Promises, no-job, one-more, start, stepped, verdict, stands, times, nobody, next, Explains, Story, HeldHaveAddress, Serializable}
+use Rattle.job.specs.Jobs.{add, remove, Arguments, End, conflict, gone, ended, Job, fresh, after, afterFirst, afterSecond, step, Sends, hasEnded, sends}
+use Rattle.serial.specs.Demand.{Calls, Promises, noJob, oneMore, start, stepped, verdict, stands, times, nobody, next, Explains, Story, HeldHaveAddress, Serializable}
 use Rattle.zone.proofs.ZoneLaws.{some≢none}
 use Rattle.serial.proofs.Demand.{stronger, demand3}
 
@@ -49,8 +49,8 @@ unfolding byRule
 by-rule = record {
   formed = λ z g. g;
   new = λ j k e. e;
-  zone-after = λ z k r e q. ap (λ (u : Result). u .zone) e;
-  job-after = λ z k r e q. ap (λ (u : Result). u .job) e;
+  zoneAfter = λ z k r e q. ap (λ (u : Result). u .zone) e;
+  jobAfter = λ z k r e q. ap (λ (u : Result). u .job) e;
 }
 
 -- ---- X holds pipe, with one address
@@ -140,15 +140,15 @@ module _ (z : Zone) (a b : Arguments) where
   unfolding byRule
   between g d e p q = record {
     arguments = a ∷ b ∷ [];
-    first-zone = z;
-    last-zone = r₄ .zone;
-    first-jobs = newJob a ∷ newJob b ∷ [];
-    last-jobs = r₄ .job ∷ r₃ .job ∷ [];
+    firstZone = z;
+    lastZone = r₄ .zone;
+    firstJobs = newJob a ∷ newJob b ∷ [];
+    lastJobs = r₄ .job ∷ r₃ .job ∷ [];
     ends = d ∷ e ∷ [];
     formed = g;
-    fresh-jobs = one-more refl (one-more refl no-job);
+    freshJobs = oneMore refl (oneMore refl noJob);
     steps = stepped (stepped (stepped (stepped start 0 (newJob a) r₁ refl refl refl) 1 (newJob b) r₂ refl refl refl) 1 (r₂ .job) r₃ refl refl refl) 0 (r₁ .job) r₄ refl refl refl;
-    all-ended = rw (p, q) refl;
+    allEnded = rw (p, q) refl;
   }
 
 -- P12: X removes its only address, Y adds in between. Y ends in conflict, and the name is gone.
@@ -182,7 +182,7 @@ p12-serial = demand3 byRule by-rule p12 p12-held
 -- As Y first and X after: that order explains it.
 p12-order : Explains (xRemoves ∷ yAdds ∷ []) (gone ∷ conflict 2 ∷ []) z₀ (r₄ z₀ xRemoves yAdds .zone) (1 ∷ 0 ∷ [])
 unfolding times
-p12-order = record { each = each; in-turn = next 1 yAdds (conflict 2) (conflict 2) refl refl y-conflict refl (next 0 xRemoves gone gone refl refl x-gone refl nobody) }
+p12-order = record { each = each; inTurn = next 1 yAdds (conflict 2) (conflict 2) refl refl y-conflict refl (next 0 xRemoves gone gone refl refl x-gone refl nobody) }
   where
     each : (i : ℕ) (e : End) → getElem? (gone ∷ conflict 2 ∷ []) i ≡ some e → times i (1 ∷ 0 ∷ []) ≡ stands (verdict e)
     each zero e p = let q : gone ≡ e = cc in ap (λ (u : End). stands (verdict u)) q
@@ -190,10 +190,10 @@ p12-order = record { each = each; in-turn = next 1 yAdds (conflict 2) (conflict 
     each (suc (suc i)) e p = absurd (some≢none (sym p))
 
     y-conflict : Sends yAdds z₀ (fresh yAdds) z₀ (conflict 2)
-    y-conflict = unfold heldByX xHost oneAddress yAdds pipe step fresh requestA requestB after heldBy sameOctets key in sends (sends has-ended)
+    y-conflict = unfold heldByX xHost oneAddress yAdds pipe step fresh requestA requestB after heldBy sameOctets key in sends (sends hasEnded)
 
     x-gone : Sends xRemoves z₀ (fresh xRemoves) (r₄ z₀ xRemoves yAdds .zone) gone
-    x-gone = unfold heldByX xHost oneAddress xRemoves yAdds pipe step fresh requestA requestB removeAddress removeName after afterFirst afterSecond heldBy sameOctets key address with mark put empty member in sends (sends has-ended)
+    x-gone = unfold heldByX xHost oneAddress xRemoves yAdds pipe step fresh requestA requestB removeAddress removeName after afterFirst afterSecond heldBy sameOctets key address with mark put empty member in sends (sends hasEnded)
 
 -- The same from a zone that demand 3 does not ask about: X holds the name, with no address.
 abbrev bare₀ : Zone

@@ -15,7 +15,7 @@ use Rattle.hosts.specs.Count.{Octets}
 use Rattle.hosts.specs.Addresses.{four}
 use Rattle.zone.specs.Zone.{Zone, Form, keepOthers, Answer, success, YXDOMAIN, NXDOMAIN, NXRRSET, address, requestA, fits, requestB, removeAddress, removeName}
 use Rattle.job.specs.Jobs.{Kind, add, remove, Arguments, End, gaveUp, notOurs, gone, kept, Stage, beforeA, beforeB, beforeFirst, beforeSecond, ended, Job, firstStage, fresh, after, passed, afterFirst, afterSecond, step, sent}
-use Rattle.serial.specs.Demand.{Calls, Promises, going, Fresh, no-job, one-more, Steps, start, stepped, refused, ownSteps, ChangedNothing, Moment, EndedFirst, verdict, stands, times, In, Before, InTurn, nobody, next, Explains, Story, Demand3, Stronger, LeftOutIdle}
+use Rattle.serial.specs.Demand.{Calls, Promises, going, Fresh, noJob, oneMore, Steps, start, stepped, refused, ownSteps, ChangedNothing, Moment, EndedFirst, verdict, stands, times, In, Before, InTurn, nobody, next, Explains, Story, Demand3, Stronger, LeftOutIdle}
 use Rattle.zone.proofs.ZoneLaws.{some≢none, option-case, zone-eq, put-off}
 use Rattle.serial.proofs.ListLaws.{set-same, set-other}
 use Rattle.serial.proofs.RequestLaws.{form-step, whole, whole-sends, outcome, quiet}
@@ -156,8 +156,8 @@ pub record Begins (C : Calls) (js : List Arguments) (ks : List (C .J)) : Type 0 
   pub stage : (i : ℕ) (k : C .J) → getElem? ks i ≡ some k → C .jobOf k .stage ≡ fresh (C .jobOf k .arguments)
 
 pub begins : (C : Calls) → Promises C → (js : List Arguments) (ks : List (C .J)) → Fresh C js ks → Begins C js ks
-begins C P [] [] no-job = record { along = λ i k e. absurd (some≢none (sym e)); stage = λ i k e. absurd (some≢none (sym e)) }
-begins C P (j ∷ js) (k ∷ ks) (one-more m f) = go (begins C P js ks f)
+begins C P [] [] noJob = record { along = λ i k e. absurd (some≢none (sym e)); stage = λ i k e. absurd (some≢none (sym e)) }
+begins C P (j ∷ js) (k ∷ ks) (oneMore m f) = go (begins C P js ks f)
   where
     is : C .jobOf k ≡ record { arguments = j; stage = fresh j }
     is = P .new j k m
@@ -185,7 +185,7 @@ module _ (C : Calls) (P : Promises C) (js : List Arguments) (z₀ : C .Z) (ks₀
   pub along : {z : C .Z} {ks : List (C .J)} → Steps C z₀ ks₀ z ks → Along C js ks
   along start = b₀ .along
   along (stepped {z = z} {ks = ks} l i k r g p q) =
-      along-set C js ks i k (C .job r) g (ap (λ (u : Job). u .arguments) (P .job-after z k r p q)) (along l)
+      along-set C js ks i k (C .job r) g (ap (λ (u : Job). u .arguments) (P .jobAfter z k r p q)) (along l)
   along (refused l y k r p q) = along l
 
   first : (i : ℕ) → stages C js ks₀ i ≡ fresh (JJ i)
@@ -216,13 +216,13 @@ module _ (C : Calls) (P : Promises C) (js : List Arguments) (z₀ : C .Z) (ks₀
     where
       over : (a b : ℕ) → H a b ⊎ Moment C ks a b → Ended (stages C js ks a)
       over a b (inl x) = r .over a b x
-      over a b (inr m) = (m .end, stage-is C js ks a (m .over) (m .is-a) ∙ m .has-ended)
+      over a b (inr m) = (m .end, stage-is C js ks a (m .over) (m .isA) ∙ m .hasEnded)
 
       order : (a b : ℕ) → H a b ⊎ Moment C ks a b → In a o → In b o → Before a b o
       order a b (inl x) p q = r .order a b x p q
       order a b (inr m) p q =
           let u : 0 < times b o = times-in b o q in
-          let s : stages C js ks b ≡ fresh (C .jobOf (m .waiting) .arguments) = stage-is C js ks b (m .waiting) (m .is-b) ∙ m .is-fresh in
+          let s : stages C js ks b ≡ fresh (C .jobOf (m .waiting) .arguments) = stage-is C js ks b (m .waiting) (m .isB) ∙ m .isFresh in
           let t : times b o + times b (v .put-off (key (JJ b .update .name))) ≡ 0 = v .each b ∙ ap (λ (x : Stage). stands (outcome x)) s ∙ ap stands (fresh-none (C .jobOf (m .waiting) .arguments)) in
           absurd (omega arith)
 
@@ -250,22 +250,22 @@ module _ (C : Calls) (P : Promises C) (js : List Arguments) (z₀ : C .Z) (ks₀
       is-a : JJ i ≡ a
       is-a = J-is C js i a (along l i k g)
 
-      zoneIs : step (JJ i) (C .zoneOf z) s .zone ≡ C .zoneOf (C .zone r)
-      zoneIs = ap (λ (x : Arguments). step x (C .zoneOf z) s .zone) is-a ∙ sym (P .zone-after z k r p q)
+      zone-is : step (JJ i) (C .zoneOf z) s .zone ≡ C .zoneOf (C .zone r)
+      zone-is = ap (λ (x : Arguments). step x (C .zoneOf z) s .zone) is-a ∙ sym (P .zoneAfter z k r p q)
 
       stages-are : stand f i (step (JJ i) (C .zoneOf z) s .stage) ≡ stages C js ks′
       stages-are =
-          ap (stand f i) (ap (λ (x : Arguments). step x (C .zoneOf z) s .stage) is-a ∙ sym (ap (λ (u : Job). u .stage) (P .job-after z k r p q)))
+          ap (stand f i) (ap (λ (x : Arguments). step x (C .zoneOf z) s .stage) is-a ∙ sym (ap (λ (u : Job). u .stage) (P .jobAfter z k r p q)))
           ∙ sym (stages-set C js ks i k (C .job r) g)
 
       go : So z ks (EndedFirst C l) → So (C .zone r) ks′ (λ x y. EndedFirst C l x y ⊎ Moment C ks′ x y)
       go (m) =
           let n = move JJ (C .zoneOf z₀) g₀ (C .zoneOf z) f (m .0) (m .1) (m .3) i s (stage-is C js ks i k g) in
           let v : Holds (C .zoneOf (C .zone r)) (stages C js ks′) (n .0) =
-          subst (λ (x : Zone). Holds x (stages C js ks′) (n .0)) zoneIs
+          subst (λ (x : Zone). Holds x (stages C js ks′) (n .0)) zone-is
           (subst (λ (h : ℕ → Stage). Holds (step (JJ i) (C .zoneOf z) s .zone) h (n .0)) stages-are (n .1)) in
           let w : Orders (EndedFirst C l) (stages C js ks′) (n .0) = subst (λ (h : ℕ → Stage). Orders (EndedFirst C l) h (n .0)) stages-are (n .2 (EndedFirst C l) (m .2)) in
-          (n .0, v, absorb (EndedFirst C l) (C .zoneOf (C .zone r)) ks′ (n .0) (along (stepped l i k r g p q)) v w, subst Form zoneIs (form-step (JJ i) (C .zoneOf z) (m .3) s))
+          (n .0, v, absorb (EndedFirst C l) (C .zoneOf (C .zone r)) ks′ (n .0) (along (stepped l i k r g p q)) v w, subst Form zone-is (form-step (JJ i) (C .zoneOf z) (m .3) s))
 
   pub counts : {z : C .Z} {ks : List (C .J)} (l : Steps C z₀ ks₀ z ks) (x : ℕ) (k : C .J) → getElem? ks x ≡ some k → Sent (C .jobOf k .stage) (ownSteps C l x)
   unfolding ownSteps
@@ -287,7 +287,7 @@ module _ (C : Calls) (P : Promises C) (js : List Arguments) (z₀ : C .Z) (ks₀
           let t : _≡_ {A = Option (C .J)} (some (C .job r)) (some k) = sym (set-same ks i j (C .job r) g) ∙ ap (getElem? (set ks i (C .job r))) (sym n) ∙ e in
           let c : C .job r ≡ k = cc in
           let a : step (C .jobOf j .arguments) (C .zoneOf z) s .stage ≡ C .jobOf k .stage =
-          sym (ap (λ (v : Job). v .stage) (P .job-after z j r p q)) ∙ ap (λ (v : C .J). C .jobOf v .stage) c in
+          sym (ap (λ (v : Job). v .stage) (P .jobAfter z j r p q)) ∙ ap (λ (v : C .J). C .jobOf v .stage) c in
           let u : ownSteps C l x + cond (going s) 1 0 ≡ ownSteps C l x + cond (eqb i x && going s) 1 0 = rw (eq-eqb i x (sym n)) refl in
           subst (Sent (C .jobOf k .stage)) u (subst (λ (v : Stage). Sent v (ownSteps C l x + cond (going s) 1 0)) a (sent-step (C .jobOf j .arguments) (C .zoneOf z) s (ownSteps C l x) d))
 
@@ -308,9 +308,9 @@ module _ (C : Calls) (P : Promises C) (js : List Arguments) (z₀ : C .Z) (ks₀
           let t : _≡_ {A = Option (C .J)} (some (C .job r)) (some k) = sym (set-same ks i j (C .job r) g) ∙ ap (getElem? (set ks i (C .job r))) (sym n) ∙ e in
           let c : C .job r ≡ k = cc in
           let a : step (C .jobOf j .arguments) (C .zoneOf z) s .stage ≡ C .jobOf k .stage =
-          sym (ap (λ (v : Job). v .stage) (P .job-after z j r p q)) ∙ ap (λ (v : C .J). C .jobOf v .stage) c in
+          sym (ap (λ (v : Job). v .stage) (P .jobAfter z j r p q)) ∙ ap (λ (v : C .J). C .jobOf v .stage) c in
           let u = quiet (C .jobOf j .arguments) (C .zoneOf z) s (ap outcome a ∙ h) in
-          (f j (ap (getElem? ks) n ∙ g) (u .1), λ m. P .zone-after z j r p q ∙ u .0)
+          (f j (ap (getElem? ks) n ∙ g) (u .1), λ m. P .zoneAfter z j r p q ∙ u .0)
 
 -- ---- the end of the list
 
@@ -327,19 +327,19 @@ module _ (C : Calls) (P : Promises C) (s : Story C) where
   js = s .arguments
 
   abbrev f : ℕ → Stage
-  f = stages C js (s .last-jobs)
+  f = stages C js (s .lastJobs)
 
-  pub g₀ : Form (C .zoneOf (s .first-zone))
-  g₀ = P .formed (s .first-zone) (s .formed)
+  pub g₀ : Form (C .zoneOf (s .firstZone))
+  g₀ = P .formed (s .firstZone) (s .formed)
 
-  pub b₀ : Begins C js (s .first-jobs)
-  b₀ = begins C P js (s .first-jobs) (s .fresh-jobs)
+  pub b₀ : Begins C js (s .firstJobs)
+  b₀ = begins C P js (s .firstJobs) (s .freshJobs)
 
   abbrev x₀ : Zone
-  x₀ = C .zoneOf (s .first-zone)
+  x₀ = C .zoneOf (s .firstZone)
 
   abbrev x₁ : Zone
-  x₁ = C .zoneOf (s .last-zone)
+  x₁ = C .zoneOf (s .lastZone)
 
   -- a number below that of the jobs: its job's end; any other: never stepped
   record Last (i : ℕ) (e : End) : Type 0 where
@@ -348,20 +348,20 @@ module _ (C : Calls) (P : Promises C) (s : Story C) where
     stage : f i ≡ ended e
 
   last : (i : ℕ) → ((e : End) × Last i e) ⊎ ((f i ≡ fresh (J C js i)) × (getElem? (s .ends) i ≡ none))
-  last i = go (ended-ends C (s .last-jobs) (s .ends) (s .all-ended) i)
+  last i = go (ended-ends C (s .lastJobs) (s .ends) (s .allEnded) i)
     where
-      go : ((getElem? (s .last-jobs) i ≡ none) × (getElem? (s .ends) i ≡ none))
-          ⊎ ((k : C .J) × (e : End) × (getElem? (s .last-jobs) i ≡ some k) × (getElem? (s .ends) i ≡ some e) × (C .jobOf k .stage ≡ ended e))
+      go : ((getElem? (s .lastJobs) i ≡ none) × (getElem? (s .ends) i ≡ none))
+          ⊎ ((k : C .J) × (e : End) × (getElem? (s .lastJobs) i ≡ some k) × (getElem? (s .ends) i ≡ some e) × (C .jobOf k .stage ≡ ended e))
           → ((e : End) × Last i e) ⊎ ((f i ≡ fresh (J C js i)) × (getElem? (s .ends) i ≡ none))
-      go (inl p) = inr (stage-none C js (s .last-jobs) i (p .0), p .1)
+      go (inl p) = inr (stage-none C js (s .lastJobs) i (p .0), p .1)
       go (inr p) =
-          let a : getElem? js i ≡ some (C .jobOf (p .0) .arguments) = along C P js (s .first-zone) (s .first-jobs) g₀ b₀ (s .steps) i (p .0) (p .2) in
+          let a : getElem? js i ≡ some (C .jobOf (p .0) .arguments) = along C P js (s .firstZone) (s .firstJobs) g₀ b₀ (s .steps) i (p .0) (p .2) in
           inl (
             p .1,
             record {
               arguments = a ∙ ap some (sym (J-is C js i (C .jobOf (p .0) .arguments) a));
               is-end = p .3;
-              stage = stage-is C js (s .last-jobs) i (p .0) (p .2) ∙ p .4;
+              stage = stage-is C js (s .lastJobs) i (p .0) (p .2) ∙ p .4;
             },
           )
 
@@ -416,17 +416,17 @@ module _ (C : Calls) (P : Promises C) (s : Story C) where
     explains : Explains js (s .ends) x₀ x₁ o
     explains = record {
       each = λ i e p. each i ∙ ap (λ (t : Stage). stands (outcome t)) (end-of i e p .stage);
-      in-turn = subst (InTurn js (s .ends) x₀ o) zone-same (turn x₀ o last-in (v .agree));
+      inTurn = subst (InTurn js (s .ends) x₀ o) zone-same (turn x₀ o last-in (v .agree));
     }
 
 module _ (C : Calls) (P : Promises C) (s : Story C) (i : ℕ) (e : End) (p : getElem? (s .ends) i ≡ some e) where
   -- job i at the end of the list
-  pub its-job : (k : C .J) × (getElem? (s .last-jobs) i ≡ some k) × (C .jobOf k .stage ≡ ended e)
-  its-job = go (ended-ends C (s .last-jobs) (s .ends) (s .all-ended) i)
+  pub its-job : (k : C .J) × (getElem? (s .lastJobs) i ≡ some k) × (C .jobOf k .stage ≡ ended e)
+  its-job = go (ended-ends C (s .lastJobs) (s .ends) (s .allEnded) i)
     where
-      go : ((getElem? (s .last-jobs) i ≡ none) × (getElem? (s .ends) i ≡ none))
-          ⊎ ((k : C .J) × (d : End) × (getElem? (s .last-jobs) i ≡ some k) × (getElem? (s .ends) i ≡ some d) × (C .jobOf k .stage ≡ ended d))
-          → (k : C .J) × (getElem? (s .last-jobs) i ≡ some k) × (C .jobOf k .stage ≡ ended e)
+      go : ((getElem? (s .lastJobs) i ≡ none) × (getElem? (s .ends) i ≡ none))
+          ⊎ ((k : C .J) × (d : End) × (getElem? (s .lastJobs) i ≡ some k) × (getElem? (s .ends) i ≡ some d) × (C .jobOf k .stage ≡ ended d))
+          → (k : C .J) × (getElem? (s .lastJobs) i ≡ some k) × (C .jobOf k .stage ≡ ended e)
       go (inl m) = absurd (some≢none (sym p ∙ m .1))
       go (inr m) =
           let t : _≡_ {A = Option End} (some (m .1)) (some e) = sym (m .3) ∙ p in
@@ -436,17 +436,17 @@ module _ (C : Calls) (P : Promises C) (s : Story C) (i : ℕ) (e : End) (p : get
   counts-right : (n : ℕ) → sent e ≡ some n → n ≡ ownSteps C (s .steps) i
   counts-right n q =
       let c : Sent (C .jobOf (its-job .0) .stage) (ownSteps C (s .steps) i) =
-      counts C P (s .arguments) (s .first-zone) (s .first-jobs) (g₀ C P s) (b₀ C P s) (s .steps) i (its-job .0) (its-job .1) in
+      counts C P (s .arguments) (s .firstZone) (s .firstJobs) (g₀ C P s) (b₀ C P s) (s .steps) i (its-job .0) (its-job .1) in
       let d : Sent (ended e) (ownSteps C (s .steps) i) = subst (λ (t : Stage). Sent t (ownSteps C (s .steps) i)) (its-job .2) c in
       d n q
 
   left-out : verdict e ≡ none → ChangedNothing C (s .steps) i
-  left-out q = idle C P (s .arguments) (s .first-zone) (s .first-jobs) (g₀ C P s) (b₀ C P s) (s .steps) i (its-job .0) (its-job .1) (ap outcome (its-job .2) ∙ q)
+  left-out q = idle C P (s .arguments) (s .firstZone) (s .firstJobs) (g₀ C P s) (b₀ C P s) (s .steps) i (its-job .0) (its-job .1) (ap outcome (its-job .2) ∙ q)
 
 pub stronger : (C : Calls) → Promises C → Stronger C
 stronger C P s =
-    let m = run C P (s .arguments) (s .first-zone) (s .first-jobs) (g₀ C P s) (b₀ C P s) (s .steps) in (
-      record { order = m .0; explains = explains C P s (m .0) (m .1) (m .3); counts = λ i e n p. counts-right C P s i e p n; left-out = left-out C P s },
+    let m = run C P (s .arguments) (s .firstZone) (s .firstJobs) (g₀ C P s) (b₀ C P s) (s .steps) in (
+      record { order = m .0; explains = explains C P s (m .0) (m .1) (m .3); counts = λ i e n p. counts-right C P s i e p n; leftOut = left-out C P s },
       m .2 .order,
     )
 

@@ -11,7 +11,7 @@ use lib.ListN.{getElem?, set}
 use Rattle.hosts.proofs.CountLaws.{true≢false}
 use Rattle.zone.specs.Zone.{Zone, Answer, success, YXDOMAIN, NXDOMAIN, NXRRSET, requestA, fits, requestB, removeAddress, removeName}
 use Rattle.job.specs.Jobs.{add, remove, Arguments, End, done, conflict, noRoom, gaveUp, notOurs, gone, kept, Stage, beforeA, beforeB, beforeFirst, beforeSecond, ended, Job, possible, fresh, after, passed, afterFirst, afterSecond, step, sent}
-use Rattle.serial.specs.Demand.{Calls, Promises, going, Fresh, no-job, one-more, Steps, start, stepped, refused, ownSteps, most, EndsInTime, NeverRefused, SixAtMost}
+use Rattle.serial.specs.Demand.{Calls, Promises, going, Fresh, noJob, oneMore, Steps, start, stepped, refused, ownSteps, most, EndsInTime, NeverRefused, SixAtMost}
 use Rattle.zone.proofs.ZoneLaws.{some≢none}
 use Rattle.job.proofs.StageLaws.{each-among}
 use Rattle.serial.proofs.ListLaws.{set-same, set-other}
@@ -60,9 +60,9 @@ regular-step k z h = record { fits = fits-step (k .arguments) z (k .stage) (h .f
 
 module _ (C : Calls) (P : Promises C) (js : List Arguments) (z₀ : C .Z) (ks₀ : List (C .J)) (new : Fresh C js ks₀) where
   regular-first : (js : List Arguments) (ks : List (C .J)) → Fresh C js ks → (i : ℕ) (k : C .J) → getElem? ks i ≡ some k → Regular (C .jobOf k)
-  regular-first [] [] no-job i k e = absurd (some≢none (sym e))
-  regular-first (j ∷ js) (x ∷ ks) (one-more m f) zero k e = let q : x ≡ k = cc in subst (λ (u : C .J). Regular (C .jobOf u)) q (subst Regular (sym (P .new j x m)) (regular-fresh j))
-  regular-first (j ∷ js) (x ∷ ks) (one-more m f) (suc i) k e = regular-first js ks f i k e
+  regular-first [] [] noJob i k e = absurd (some≢none (sym e))
+  regular-first (j ∷ js) (x ∷ ks) (oneMore m f) zero k e = let q : x ≡ k = cc in subst (λ (u : C .J). Regular (C .jobOf u)) q (subst Regular (sym (P .new j x m)) (regular-fresh j))
+  regular-first (j ∷ js) (x ∷ ks) (oneMore m f) (suc i) k e = regular-first js ks f i k e
 
   regular : {z : C .Z} {ks : List (C .J)} → Steps C z₀ ks₀ z ks → (i : ℕ) (k : C .J) → getElem? ks i ≡ some k → Regular (C .jobOf k)
   regular start i k e = regular-first js ks₀ new i k e
@@ -74,7 +74,7 @@ module _ (C : Calls) (P : Promises C) (js : List Arguments) (z₀ : C .Z) (ks₀
       go (yes m) h =
           let t : _≡_ {A = Option (C .J)} (some (C .job r)) (some k) = sym (set-same ks n j (C .job r) g) ∙ ap (getElem? (set ks n (C .job r))) (sym m) ∙ e in
           let c : C .job r ≡ k = cc in
-          subst (λ (u : C .J). Regular (C .jobOf u)) c (subst Regular (sym (P .job-after z j r p q)) (regular-step (C .jobOf j) (C .zoneOf z) (h n j g)))
+          subst (λ (u : C .J). Regular (C .jobOf u)) c (subst Regular (sym (P .jobAfter z j r p q)) (regular-step (C .jobOf j) (C .zoneOf z) (h n j g)))
 
 -- A job that has not ended has sent fewer requests than its kind may.
 fewer : (j : Arguments) (s : Stage) (m : ℕ) → Fits j s → possible s ≡ true → Sent s m → going s ≡ true → m < most (j .kind)
@@ -105,7 +105,7 @@ few-sent kept n c q = absurd (some≢none (sym q))
 pub six-at-most : (C : Calls) → Promises C → SixAtMost C
 six-at-most C P s i e n p q =
     let j = its-job C P s i e p in
-    let r = regular C P (s .arguments) (s .first-zone) (s .first-jobs) (s .fresh-jobs) (s .steps) i (j .0) (j .1) in
+    let r = regular C P (s .arguments) (s .firstZone) (s .firstJobs) (s .freshJobs) (s .steps) i (j .0) (j .1) in
     few-sent e n (subst (λ (t : Stage). possible t ≡ true) (j .2) (r .can)) q
 
 -- Zones and jobs that a step always takes: those of good form and the fresh ones are, and a step leaves such a zone and such a job.
@@ -118,9 +118,9 @@ pub record Taken (C : Calls) (OkZone : C .Z → Type 0) (Ok : C .J → Type 0) :
 
 module _ (C : Calls) (OkZone : C .Z → Type 0) (Ok : C .J → Type 0) (T : Taken C OkZone Ok) where
   all-first : (js : List Arguments) (ks : List (C .J)) → Fresh C js ks → (i : ℕ) (k : C .J) → getElem? ks i ≡ some k → Ok k
-  all-first [] [] no-job i k e = absurd (some≢none (sym e))
-  all-first (j ∷ js) (x ∷ ks) (one-more m f) zero k e = let q : x ≡ k = cc in subst Ok q (T .new-ok j x m)
-  all-first (j ∷ js) (x ∷ ks) (one-more m f) (suc i) k e = all-first js ks f i k e
+  all-first [] [] noJob i k e = absurd (some≢none (sym e))
+  all-first (j ∷ js) (x ∷ ks) (oneMore m f) zero k e = let q : x ≡ k = cc in subst Ok q (T .new-ok j x m)
+  all-first (j ∷ js) (x ∷ ks) (oneMore m f) (suc i) k e = all-first js ks f i k e
 
   module _ (js : List Arguments) (z₀ : C .Z) (ks₀ : List (C .J)) (formed : C .Formed z₀) (new : Fresh C js ks₀) where
     zone-stays : {z : C .Z} {ks : List (C .J)} → Steps C z₀ ks₀ z ks → OkZone z

@@ -14,7 +14,7 @@ use Rattle.hosts.specs.Count.{member}
 use Rattle.hosts.specs.Addresses.{mark}
 use Rattle.hosts.proofs.CountLaws.{true≢false}
 use Rattle.zone.specs.Zone.{Zone, with, put, heldBy, empty, address, requestA, left, fits, writeB, requestB, removeAddress, removeName}
-use Rattle.job.specs.Jobs.{Arguments, End, done, conflict, gone, kept, Stage, ended, fresh, after, afterFirst, afterSecond, step, Sends, has-ended, sends}
+use Rattle.job.specs.Jobs.{Arguments, End, done, conflict, gone, kept, Stage, ended, fresh, after, afterFirst, afterSecond, step, Sends, hasEnded, sends}
 use Rattle.serial.specs.Demand.{going, times, Story}
 use Rattle.zone.proofs.ZoneLaws.{some≢none}
 use Rattle.serial.proofs.Demand.{js}
@@ -34,11 +34,11 @@ the-list = between z₀ xRemoves xAdds form-one kept (done 2) (the-ends .0) (the
 -- ---- a whole job's end is one
 
 more : (j : Arguments) {z : Zone} (s : Stage) {y : Zone} {d : End} → Sends j z s y d → going s ≡ true → Sends j (step j z s .zone) (step j z s .stage) y d
-more j s has-ended g = absurd (true≢false (sym g))
+more j s hasEnded g = absurd (true≢false (sym g))
 more j s (sends h) g = h
 
 stays : (j : Arguments) {z : Zone} (s : Stage) {y : Zone} {d : End} (e : End) → Sends j z s y d → s ≡ ended e → (z ≡ y) × (e ≡ d)
-stays j s e (has-ended {e = d}) p = (refl, (let q : e ≡ d = cc in q))
+stays j s e (hasEnded {e = d}) p = (refl, (let q : e ≡ d = cc in q))
 stays j s e (sends {z = z} h) p =
     let m = stays j (step j z s .stage) e h (ap (λ (t : Stage). step j z t .stage) p ∙ (unfold step in refl)) in
     let u : z ≡ step j z (ended e) .zone = unfold step in refl in

@@ -7,7 +7,7 @@ use lib.Dec.{ltb}
 use borrow.Author.Tests.{ltb-true, ltb-false, lt-ltb}
 use Rattle.hosts.proofs.CountLaws.{bool-case}
 use Rattle.zone.specs.Zone.{Host, Zone, Form, put, Update, NXDOMAIN, atName, heldBy, empty, address, newHost, left, fits}
-use Rattle.job.specs.Jobs.{add, remove, Arguments, End, done, conflict, noRoom, notOurs, gone, kept, Stage, beforeA, beforeB, beforeFirst, beforeSecond, ended, firstStage, fresh, after, afterFirst, afterSecond, State, step, Sends, has-ended, sends}
+use Rattle.job.specs.Jobs.{add, remove, Arguments, End, done, conflict, noRoom, notOurs, gone, kept, Stage, beforeA, beforeB, beforeFirst, beforeSecond, ended, firstStage, fresh, after, afterFirst, afterSecond, State, step, Sends, hasEnded, sends}
 use Rattle.serial.specs.Demand.{Verdict, removed, verdict}
 use Rattle.zone.proofs.ZoneLaws.{some≢none, option-case, put-at, A-new, A-full, A-there, B-absent, B-other, B-full, B-done, remove-address-absent, remove-address-other, remove-address-own, remove-name-absent, remove-name-kept, remove-name-gone}
 use Rattle.zone.proofs.RequestLaws.{form-lasts, A-effect, B-effect, remove-address-effect, remove-name-effect}
@@ -97,7 +97,7 @@ form-whole j z g = form-step j (step j z (fresh j) .zone) (form-step j z g (fres
 
 pub whole-sends : (j : Arguments) (z : Zone) (e : End) → whole j z .stage ≡ ended e → Sends j z (fresh j) (whole j z .zone) e
 unfolding whole
-whole-sends j z e p = sends (sends (subst (λ (s : Stage). Sends j (whole j z .zone) s (whole j z .zone) e) (sym p) has-ended))
+whole-sends j z e p = sends (sends (subst (λ (s : Stage). Sends j (whole j z .zone) s (whole j z .zone) e) (sym p) hasEnded))
 
 step-ended : (j : Arguments) (z : Zone) (e : End) → step j z (ended e) ≡ state z (ended e)
 unfolding step

@@ -11,23 +11,23 @@ use Rattle.job.specs.Meaning.{argumentsOf, stageOf, jobOf, atStage, numbersList
 use Rattle.job.specs.Promise.{newRefusal, stepRefusal, stepOf, StepPromise}
 use Rattle.job.proofs.JobLaws.{listed-after, possible-before, listed-of, full-of, unrefused, zone-after, job-after, new-none, new-is, add-is, remove-is, add-listed, add-full, remove-listed, remove-full}
 use Rattle.serial.specs.Demand.{Promises}
-use Rattle.serial.specs.Running.{NewCall, new-add, new-remove, running, Delivered}
+use Rattle.serial.specs.Running.{NewCall, newAdd, newRemove, running, Delivered}
 use Rattle.serial.proofs.StageLaws.{possible-step}
 use Rattle.serial.proofs.Demand.{stronger, demand3, left-out-idle}
 use Rattle.serial.proofs.InTime.{Taken, ends-in-time, never-refused, six-at-most}
 
 new-job : (j : Arguments) (k : Job) → NewCall j k → jobOf k ≡ record { arguments = j; stage = fresh j }
 unfolding fresh
-new-job j k (new-add n d family a policy r p e) =
+new-job j k (newAdd n d family a policy r p e) =
     ap jobOf (new-is (newRefusal (nameOf n) family policy) (freshAdd n d family a policy) r p e) ∙ add-is n d family a policy
-new-job j k (new-remove n d family a r p e) = ap jobOf (new-is (newRefusal (nameOf n) family 0) (freshRemove n d family a) r p e) ∙ remove-is n d family a
+new-job j k (newRemove n d family a r p e) = ap jobOf (new-is (newRefusal (nameOf n) family 0) (freshRemove n d family a) r p e) ∙ remove-is n d family a
 
 pub kept-promises : Promises running
 kept-promises = record {
   formed = λ z f. form-of z f;
   new = new-job;
-  zone-after = λ z k r p e. zone-after z k r p e;
-  job-after = λ z k r p e. job-after z k r p e;
+  zoneAfter = λ z k r p e. zone-after z k r p e;
+  jobAfter = λ z k r p e. job-after z k r p e;
 }
 
 -- ---- a job of the list is never refused
@@ -36,10 +36,10 @@ abbrev Ok : Job → Type 0
 Ok k = (numbersListed k ≡ true) × (isFull (nameOf (k .name)) ≡ true)
 
 new-ok : (j : Arguments) (k : Job) → NewCall j k → Ok k
-new-ok j k (new-add n d family a policy r p e) =
+new-ok j k (newAdd n d family a policy r p e) =
     let z = new-none (newRefusal (nameOf n) family policy) (freshAdd n d family a policy) r p e in
     subst Ok (sym (new-is (newRefusal (nameOf n) family policy) (freshAdd n d family a policy) r p e)) (add-listed n d family a policy z, add-full n d family a policy z)
-new-ok j k (new-remove n d family a r p e) =
+new-ok j k (newRemove n d family a r p e) =
     let z = new-none (newRefusal (nameOf n) family 0) (freshRemove n d family a) r p e in
     subst Ok (sym (new-is (newRefusal (nameOf n) family 0) (freshRemove n d family a) r p e)) (remove-listed n d family a z, remove-full n d family a z)
 
@@ -73,8 +73,8 @@ pub delivered : Delivered
 delivered = record {
   demand3 = demand3 running kept-promises;
   stronger = stronger running kept-promises;
-  left-out-idle = left-out-idle running kept-promises;
-  ends-in-time = ends-in-time running kept-promises;
-  never-refused = never-refused running (λ z. formed z ≡ true) Ok taken;
-  six-at-most = six-at-most running kept-promises;
+  leftOutIdle = left-out-idle running kept-promises;
+  endsInTime = ends-in-time running kept-promises;
+  neverRefused = never-refused running (λ z. formed z ≡ true) Ok taken;
+  sixAtMost = six-at-most running kept-promises;
 }

@@ -33,9 +33,9 @@ pub record Calls : Type 1 where
 pub record Promises (C : Calls) : Type 0 where
   pub formed : (z : C .Z) → C .Formed z → Form (C .zoneOf z)
   pub new : (j : Arguments) (k : C .J) → C .New j k → C .jobOf k ≡ record { arguments = j; stage = fresh j }
-  pub zone-after : (z : C .Z) (k : C .J) (r : C .R) → C .Step z k r → C .refusal r ≡ 0
+  pub zoneAfter : (z : C .Z) (k : C .J) (r : C .R) → C .Step z k r → C .refusal r ≡ 0
       → C .zoneOf (C .zone r) ≡ step (C .jobOf k .arguments) (C .zoneOf z) (C .jobOf k .stage) .zone
-  pub job-after : (z : C .Z) (k : C .J) (r : C .R) → C .Step z k r → C .refusal r ≡ 0
+  pub jobAfter : (z : C .Z) (k : C .J) (r : C .R) → C .Step z k r → C .refusal r ≡ 0
       → C .jobOf (C .job r) ≡ record { arguments = C .jobOf k .arguments; stage = step (C .jobOf k .arguments) (C .zoneOf z) (C .jobOf k .stage) .stage }
 
 abbrev pub going : Stage → Bool
@@ -50,8 +50,8 @@ going (ended e) = false
 module _ (C : Calls) where
   -- Fresh jobs: what new job calls gave that were not refused. Jobs may be alike.
   pub data Fresh : List Arguments → List (C .J) → Type 0 where
-    no-job : Fresh [] []
-    one-more : {j : Arguments} {k : C .J} {js : List Arguments} {ks : List (C .J)} → C .New j k → Fresh js ks → Fresh (j ∷ js) (k ∷ ks)
+    noJob : Fresh [] []
+    oneMore : {j : Arguments} {k : C .J} {js : List Arguments} {ks : List (C .J)} → C .New j k → Fresh js ks → Fresh (j ∷ js) (k ∷ ks)
 
   -- A list of steps, from a zone and jobs to a zone and the jobs as they then stand. A step that is not refused gets the zone that stands and
   -- one of the jobs as it stands, and what it returns stands from then on. A refused step may be handed anything, and changes neither.
@@ -81,10 +81,10 @@ module _ (C : Calls) where
     pub over : C .J
     pub waiting : C .J
     pub end : End
-    pub is-a : getElem? ks a ≡ some over
-    pub is-b : getElem? ks b ≡ some waiting
-    pub has-ended : C .jobOf over .stage ≡ ended end
-    pub is-fresh : C .jobOf waiting .stage ≡ fresh (C .jobOf waiting .arguments)
+    pub isA : getElem? ks a ≡ some over
+    pub isB : getElem? ks b ≡ some waiting
+    pub hasEnded : C .jobOf over .stage ≡ ended end
+    pub isFresh : C .jobOf waiting .stage ≡ fresh (C .jobOf waiting .arguments)
 
   unfoldable pub EndedFirst : {z₀ z : C .Z} {ks₀ ks : List (C .J)} → Steps z₀ ks₀ z ks → ℕ → ℕ → Type 0
   EndedFirst start a b = ⊥
@@ -134,22 +134,22 @@ module _ (js : List Arguments) (ends : List End) where
   -- An order that explains the list: each job that is not left out stands in it once, and no other.
   pub record Explains (x z : Zone) (o : List ℕ) : Type 0 where
     pub each : (i : ℕ) (e : End) → getElem? ends i ≡ some e → times i o ≡ stands (verdict e)
-    pub in-turn : InTurn x o z
+    pub inTurn : InTurn x o z
 
 -- ---- the claim
 
 -- A list of steps of fresh jobs after which each job has ended.
 pub record Story (C : Calls) : Type 0 where
   pub arguments : List Arguments
-  pub first-zone : C .Z
-  pub last-zone : C .Z
-  pub first-jobs : List (C .J)
-  pub last-jobs : List (C .J)
+  pub firstZone : C .Z
+  pub lastZone : C .Z
+  pub firstJobs : List (C .J)
+  pub lastJobs : List (C .J)
   pub ends : List End
-  pub formed : C .Formed first-zone
-  pub fresh-jobs : Fresh C arguments first-jobs
-  pub steps : Steps C first-zone first-jobs last-zone last-jobs
-  pub all-ended : map (λ (k : C .J). C .jobOf k .stage) last-jobs ≡ map ended ends
+  pub formed : C .Formed firstZone
+  pub freshJobs : Fresh C arguments firstJobs
+  pub steps : Steps C firstZone firstJobs lastZone lastJobs
+  pub allEnded : map (λ (k : C .J). C .jobOf k .stage) lastJobs ≡ map ended ends
 
 -- Every held name has an address.
 abbrev pub HeldHaveAddress : Zone → Type 0
@@ -159,11 +159,11 @@ module _ (C : Calls) (s : Story C) where
   pub record Serializable : Type 0 where
     -- some order of all jobs but those left out leads from the same zone to the same zone, and every add gets the same answer
     pub order : List ℕ
-    pub explains : Explains (s .arguments) (s .ends) (C .zoneOf (s .first-zone)) (C .zoneOf (s .last-zone)) order
+    pub explains : Explains (s .arguments) (s .ends) (C .zoneOf (s .firstZone)) (C .zoneOf (s .lastZone)) order
     -- the count that an add reports is the number of its own steps up to its end
     pub counts : (i : ℕ) (e : End) (n : ℕ) → getElem? (s .ends) i ≡ some e → sent e ≡ some n → n ≡ ownSteps C (s .steps) i
     -- adds that ended no room or gave up changed nothing, at any of their steps
-    pub left-out : (i : ℕ) (e : End) → getElem? (s .ends) i ≡ some e → verdict e ≡ none → ChangedNothing C (s .steps) i
+    pub leftOut : (i : ℕ) (e : End) → getElem? (s .ends) i ≡ some e → verdict e ≡ none → ChangedNothing C (s .steps) i
 
   -- A job that ended before another sent its first request stands before it in the order.
   abbrev pub AsSeen : List ℕ → Type 0
@@ -171,7 +171,7 @@ module _ (C : Calls) (s : Story C) where
 
 -- Demand 3, as it was asked.
 abbrev pub Demand3 : Calls → Type 0
-Demand3 C = (s : Story C) → HeldHaveAddress (C .zoneOf (s .first-zone)) → Serializable C s
+Demand3 C = (s : Story C) → HeldHaveAddress (C .zoneOf (s .firstZone)) → Serializable C s
 
 -- What is shown: the same from every zone of good form, held names without addresses or not, and in the order seen.
 abbrev pub Stronger : Calls → Type 0

@@ -18,9 +18,9 @@ use Rattle.serial.specs.Demand.{Calls, Demand3, Stronger, LeftOutIdle, E
 
 -- A new job call that was not refused: what it was given, and the job that it gave. The contracts of the two calls are all that is known.
 pub data NewCall : Arguments → Job → Type 0 where
-  new-add : (n : Name) (d : Dhcid) (family : ℕ) (a : Address) (policy : ℕ) (r : NewJob) → AddPromise n d family a policy r → r .refusal ≡ 0
+  newAdd : (n : Name) (d : Dhcid) (family : ℕ) (a : Address) (policy : ℕ) (r : NewJob) → AddPromise n d family a policy r → r .refusal ≡ 0
       → NewCall (record { kind = add; update = updateOf n d family a; policy = policyOf policy }) (r .job)
-  new-remove : (n : Name) (d : Dhcid) (family : ℕ) (a : Address) (r : NewJob) → RemovePromise n d family a r → r .refusal ≡ 0
+  newRemove : (n : Name) (d : Dhcid) (family : ℕ) (a : Address) (r : NewJob) → RemovePromise n d family a r → r .refusal ≡ 0
       → NewCall (record { kind = remove; update = updateOf n d family a; policy = keepOthers }) (r .job)
 
 abbrev pub running : Calls
@@ -42,7 +42,7 @@ running = record {
 pub record Delivered : Type 0 where
   pub demand3 : Demand3 running
   pub stronger : Stronger running
-  pub left-out-idle : LeftOutIdle running
-  pub ends-in-time : EndsInTime running
-  pub never-refused : NeverRefused running
-  pub six-at-most : SixAtMost running
+  pub leftOutIdle : LeftOutIdle running
+  pub endsInTime : EndsInTime running
+  pub neverRefused : NeverRefused running
+  pub sixAtMost : SixAtMost running

@@ -38,7 +38,7 @@ returns-5 : tie.Need-returns-5
 returns-5 c = search needs
 
 step-ended-requires : tie.Need-step-ended-requires
-step-ended-requires c κs = (sym (c .before .before .before .before .before .numbers-listed .ensures) ∙ not-false _ (c .before .before .before .before .if1 .left), record { not-a = c .before .before .before .if2 .left; not-b = c .before .before .if3 .left; not-first = c .before .if4 .left; not-second = c .if5 .left })
+step-ended-requires c κs = (sym (c .before .before .before .before .before .numbers-listed .ensures) ∙ not-false _ (c .before .before .before .before .if1 .left), record { notA = c .before .before .before .if2 .left; notB = c .before .before .if3 .left; notFirst = c .before .if4 .left; notSecond = c .if5 .left })
 
 returns-6 : tie.Need-returns-6
 returns-6 c = search needs
