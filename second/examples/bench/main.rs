@@ -5,6 +5,7 @@
 mod common {
     pub(crate) use crate::requests;
 }
+mod job;
 mod lease_query;
 mod name_option;
 #[path = "../../tests/common/requests.rs"]
@@ -19,4 +20,5 @@ fn main() {
     server_list::run();
     lease_query::run();
     zone::run();
+    job::run();
 }

@@ -2,7 +2,7 @@
 //! the second program with the zone by value and on a reference.
 
 #[path = "../../tests/product/zone.rs"]
-mod product;
+pub mod product;
 
 use std::hint::black_box;
 

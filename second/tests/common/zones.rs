@@ -146,7 +146,7 @@ impl Stock {
                 let name = again(random, &self.names[(first + at) % self.names.len()]);
                 self.entry(random, name)
             } else if at < filled {
-                let name = name_of(random, &[3, b'f', b'0' + at as u8, 1, 0]);
+                let name = name_of(random, &[5, b'f', b'i', b'l', b'l', b'0' + at as u8, 0]);
                 self.entry(random, name)
             } else {
                 self.free(random)
