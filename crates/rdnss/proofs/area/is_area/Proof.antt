@@ -17,7 +17,7 @@ abbrev μ-loop : tie.MeasureT-loop
 
 returns : tie.Need-returns Inv-loop μ-loop
 unfolding isArea
-returns c = simp (lt-leb _ _ (c .if1 .taken))
+returns c = simp (lt-leb (length (c .before .args .area .now)) 1500 (c .if1 .taken))
 
 loop-holds : tie.Need-loop-holds Inv-loop μ-loop
 unfolding isArea
