@@ -1,10 +1,11 @@
 -- From a survey and the place found to what the rules say: each way out of a decision. Assumes nothing.
-use mathlib.Core.Path.{_≡_, refl, sym, _∙_, ap}
+use mathlib.Core.Path.{_≡_, refl, sym, _∙_, ap, fun-ext}
 use mathlib.Core.Bool.{Bool, true, false, cond, not, _&&_, and-false}
 use mathlib.Core.Option.{Option, none, some}
 use Prim.Native.Nat.{ℕ, _≤_, _<_}
 use native.Mathlib.Omega.{arith}
 use lib.Dec.{eqb}
+use borrow.Author.Tests.{eq-eqb, ne-eqb}
 use lib.ListN.{length, getD, set}
 use Rattle.dname.specs.Name.{key}
 use Rattle.hosts.specs.Count.{Octets, distinct}
@@ -15,12 +16,11 @@ use Rattle.zone.specs.declared.entry.Address.{Address}
 use Rattle.zone.specs.declared.survey.Zone.{Zone}
 use Rattle.zone.specs.declared.survey.Survey.{Survey}
 use Rattle.zone.specs.declared.decide.Change.{Change}
-use Rattle.zone.specs.declared.request.Answered.{Answered}
 use Rattle.zone.specs.Zone as rules
 use Rattle.zone.specs.Zone.{Host, Update, put, Answer, success, YXDOMAIN, NXDOMAIN, NXRRSET, noRoom, Outcome, says, heldBy, empty, address, newHost, left, fits, requestA, requestB, removeAddress, removeName}
-use Rattle.zone.specs.Meaning.{nameOf, isFull, used, keyOf, hostOf, keys, zoneOf, inOrder, allInOrder, formed, listed, policyOf, updateOf}
+use Rattle.zone.specs.Meaning.{nameOf, isFull, used, keyOf, hostOf, keys, zoneOf, inOrder, allInOrder, formed, listed, policyOf, updateOf, requestOf}
 use Rattle.zone.specs.Promise.{numberOf, refusalOf, Promised}
-use Rattle.zone.specs.Survey.{Found, changed, Decided, Decides, Finished, Kept, Fresh, About, Joined, Parted, HasRoom}
+use Rattle.zone.specs.Survey.{Found, changed, Decided, Decides, Kept, Fresh, About, Joined, Parted, HasRoom}
 use Rattle.zone.proofs.SurveyLaws.{blank}
 use Rattle.zone.proofs.HostLaws.{about}
 use Rattle.zone.proofs.ZoneLaws.{A-new, A-full, A-there, B-absent, B-other, B-full, B-done, remove-address-absent, remove-address-other, remove-address-own, remove-name-absent, remove-name-kept, remove-name-gone}
@@ -42,6 +42,25 @@ module _ (z : Zone) (right : Outcome) (w : Change) where
     stays = λ h. absurd (h q);
     writes = λ h. (e .0, e .1 ∙ ap (λ (o : Outcome). o .zone) (sym r));
   }
+
+-- ---- nothing sent, and the requests by number
+
+pub sends-nothing : (s : Survey) (n : Octets) (policy : ℕ) (u : Update) (kind : ℕ) (w : Change) → kind ≡ 0 → w .answer ≡ 0 → w .place ≡ 64 → Decides (requestOf kind policy u) n s w
+unfolding numberOf
+sends-nothing s n policy u kind w k a p = record { decides = λ z g v. stay z _ w success (unfold requestOf in rw (eq-eqb kind 0 k)) a p }
+
+module _ (policy : ℕ) (u : Update) (kind : ℕ) where
+  pub is-A : kind ≡ 1 → requestA u ≡ requestOf kind policy u
+  is-A k = fun-ext (λ z. unfold requestOf in rw k)
+
+  pub is-B : kind ≡ 2 → requestB (policyOf policy) u ≡ requestOf kind policy u
+  is-B k = fun-ext (λ z. unfold requestOf in rw k)
+
+  pub is-first : kind ≡ 3 → removeAddress u ≡ requestOf kind policy u
+  is-first k = fun-ext (λ z. unfold requestOf in rw k)
+
+  pub is-second : ¬ (kind ≡ 0) → ¬ (kind ≡ 1) → ¬ (kind ≡ 2) → ¬ (kind ≡ 3) → removeName u ≡ requestOf kind policy u
+  is-second a b c d = fun-ext (λ z. unfold requestOf in sym (rw (ne-eqb kind 0 a, ne-eqb kind 1 b, ne-eqb kind 2 c, ne-eqb kind 3 d)))
 
 -- ---- the four requests
 

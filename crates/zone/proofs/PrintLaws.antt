@@ -2,40 +2,41 @@
 use mathlib.Core.Path.{_≡_, refl, sym, _∙_, ap}
 use mathlib.Core.Bool.{Bool, true, false, not, _&&_, _||_, or-false}
 use mathlib.Core.List.{List, [], _∷_, map}
-use Prim.Native.Nat.{ℕ, _+_, _*_, _≤_, _<_}
+use Prim.Native.Nat.{ℕ, suc, _+_, _≤_, _<_}
 use native.Mathlib.Numerals.{add-one}
 use lib.Dec.{eqb}
 use lib.ListN.{length, getD, take, drop, drop-of-length-le}
 use lib.Seq.{drop-cons, length-take-le}
 use borrow.Author.Tests.{eqb-false}
 use Rattle.octets.specs.Compare.{sameOctets}
+use Rattle.octets.specs.Number.{numberAt}
 use Rattle.octets.proofs.CompareLaws.{same-differ}
 use Rattle.dname.specs.Name.{key, sameName}
 use Rattle.hosts.specs.Count.{Octets, member, distinct}
-use Rattle.zone.specs.Survey.{printFrom, printOf, among, repeated}
+use Rattle.zone.specs.Survey.{mix, printFrom, printWords, printOf, among, repeated}
 
 pub prefix-length : {A : Type 0} (l : List A) (n : ℕ) → n ≤ length l → n ≡ length (take n l)
 prefix-length l n h = sym (length-take-le n l h)
 
 -- the one place where a fingerprint of octets is one of the key: the key of a name is its octets
-pub print-key : (name : Octets) → printFrom 0 0 0 name ≡ printOf name
+pub print-key : (name : Octets) → printWords name ≡ printOf name
 unfolding key
 print-key name = refl
 
 -- names with different fingerprints are different
 pub print-differ : (a b : Octets) → (printOf a ≡ printOf b → ⊥) → sameName a b ≡ false
 unfolding sameName
-print-differ a b h = same-differ (printFrom 0 0 0) (key a) (key b) h
+print-differ a b h = same-differ printWords (key a) (key b) h
 
--- ---- loops over octets and over fingerprints
+-- ---- loops over words and over fingerprints
 
-pub print-step : (s : List ℕ) (i p q r : ℕ) → i < length s → printFrom p q r (drop i s) ≡ printFrom (p + getD s i 0) (q + (p + getD s i 0)) (r + (q + (p + getD s i 0))) (drop (i + 1) s)
+pub print-step : (n left i p q : ℕ) (s : List ℕ) → n ≡ suc left → printFrom n i p q s ≡ printFrom left (i + 4) (p + numberAt 4 s i) (q + (p + numberAt 4 s i)) s
 unfolding printFrom
-print-step s i p q r h = rw (add-one, drop-cons s i 0 h)
+print-step n left i p q s e = rw e
 
-pub print-end : (s : List ℕ) (i p q r : ℕ) → length s ≤ i → printFrom p q r (drop i s) ≡ r * 16777216 + q
+pub print-end : (n i p q : ℕ) (s : List ℕ) → n ≡ 0 → printFrom n i p q s ≡ mix (p + numberAt 4 s i) (q + (p + numberAt 4 s i))
 unfolding printFrom
-print-end s i p q r h = rw (drop-of-length-le s h)
+print-end n i p q s e = rw e
 
 pub among-step : (x : ℕ) (p : List ℕ) (j : ℕ) → j < length p → among x (drop j p) ≡ (eqb (getD p j 0) x || among x (drop (j + 1) p))
 unfolding among

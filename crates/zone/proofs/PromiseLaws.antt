@@ -1,13 +1,16 @@
 -- The refusals in their order, and what a call's promise is made of. Assumes nothing.
 use mathlib.Core.Path.{_≡_, refl, sym, _∙_, ap}
 use mathlib.Core.Bool.{Bool, true, false, cond, not, _&&_, and-false}
+use mathlib.Core.List.{List}
 use Prim.Native.Nat.{ℕ, _≤_, _<_}
 use native.Mathlib.Omega.{arith}
 use lib.Dec.{eqb, leb, ltb}
 use lib.ListN.{length}
+use lib.Seq.{set-out}
 use borrow.Author.Tests.{eq-eqb, ne-eqb, le-leb, lt-leb, ltb-true, ltb-false}
 use Rattle.hosts.specs.Count.{Octets, distinct}
 use Rattle.hosts.proofs.CountLaws.{true≢false, bool-case}
+use Rattle.zone.specs.declared.entry.Entry.{Entry}
 use Rattle.zone.specs.declared.survey.Zone.{Zone}
 use Rattle.zone.specs.declared.survey.Survey.{Survey}
 use Rattle.zone.specs.declared.decide.Change.{Change}
@@ -15,8 +18,8 @@ use Rattle.zone.specs.declared.request.Answered.{Answered}
 use Rattle.zone.specs.Zone as rules
 use Rattle.zone.specs.Zone.{Outcome}
 use Rattle.zone.specs.Meaning.{isFull, keys, zoneOf, allInOrder, formed, listed}
-use Rattle.zone.specs.Promise.{numberOf, refusalOf, Promised}
-use Rattle.zone.specs.Survey.{Found, changed, Decided, Decides, Finished}
+use Rattle.zone.specs.Promise.{numberOf, refusalOf, written, settled, Promised}
+use Rattle.zone.specs.Survey.{Found, changed, Decided, Decides}
 
 -- ---- numbers that are listed
 
@@ -117,34 +120,51 @@ module _ (z : Zone) (n : Octets) (family policy : ℕ) (inorder : Bool) (l : len
 
 -- ---- promises
 
+-- nothing is written where there is no such place
+pub no-place : (z : Zone) (place : ℕ) (e : Entry) → length (z .entries) ≡ 64 → 64 ≤ place → written z place e ≡ z
+no-place z place e l h = ap (λ (es : List Entry). record { entries = es }) (set-out (z .entries) place e (omega arith))
+
 module _ (z : Zone) (n : Octets) (family policy : ℕ) (request : rules.Zone → Outcome) where
   abbrev refusal : ℕ
   refusal = refusalOf z n family policy
 
-  pub promise-refused : (k : ℕ) → k ≡ refusal → ¬ (k ≡ 0) → Promised z refusal (request (zoneOf z)) (record { refusal = k; answer = 0; zone = z })
-  promise-refused k e d =
-      let m : ¬ (refusal ≡ 0) = λ q. d (e ∙ q) in
-      record { refusalIs = e; answerIs = rw (ne-eqb refusal 0 m); kept = λ q. refl; done = λ q. absurd (m q); formedAgain = λ q. absurd (m q) }
+  pub promise-refused : (k : ℕ) (e : Entry) → length (z .entries) ≡ 64 → k ≡ refusal → ¬ (k ≡ 0)
+      → Promised z refusal (request (zoneOf z)) (settled z (record { refusal = k; answer = 0; place = 64; entry = e }))
+  promise-refused k e l p d =
+      let m : ¬ (refusal ≡ 0) = λ q. d (p ∙ q) in
+      record { refusalIs = p; answerIs = rw (ne-eqb refusal 0 m); kept = λ q. no-place z 64 e l (omega arith); done = λ q. absurd (m q); formedAgain = λ q. absurd (m q) }
 
-  pub promise-done : (s : Survey) (w : Change) (r : Answered) (k : ℕ) → k ≡ refusal → k ≡ 0 → Found z n s → Decides request n s w → Finished z w r
-      → Promised z refusal (request (zoneOf z)) r
-  promise-done s w r k p q v d f =
+  pub promise-done : (s : Survey) (w : Change) (k : ℕ) → k ≡ refusal → k ≡ 0 → Found z n s → Decides request n s w
+      → Promised z refusal (request (zoneOf z)) (settled z (record { refusal = 0; answer = w .answer; place = w .place; entry = w .entry }))
+  promise-done s w k p q v d =
       let e : refusal ≡ 0 = sym p ∙ q in
       let g : formed z ≡ true = not-refused z n family policy e .form in
       let c : Decided z (request (zoneOf z)) w = d .decides z g v in
       record {
-        refusalIs = f .refusalIs ∙ sym e;
-        answerIs = f .answerIs ∙ c .answerIs ∙ sym (rw (eq-eqb refusal 0 e));
+        refusalIs = sym e;
+        answerIs = c .answerIs ∙ sym (rw (eq-eqb refusal 0 e));
         kept = λ q. absurd (q e);
         done = λ q. zone c g (ltb (w .place) 64) refl .0;
         formedAgain = λ q. zone c g (ltb (w .place) 64) refl .1;
       }
     where
-      zone : Decided z (request (zoneOf z)) w → formed z ≡ true → (b : Bool) → ltb (w .place) 64 ≡ b → (zoneOf (r .zone) ≡ request (zoneOf z) .zone) × (formed (r .zone) ≡ true)
+      zone : Decided z (request (zoneOf z)) w → formed z ≡ true → (b : Bool) → ltb (w .place) 64 ≡ b → (zoneOf (changed z w) ≡ request (zoneOf z) .zone) × (formed (changed z w) ≡ true)
       zone c g true t =
           let h = ltb-true (w .place) 64 t in
-          (ap zoneOf (f .wrote h) ∙ c .writes h .1, ap formed (f .wrote h) ∙ c .writes h .0)
+          (c .writes h .1, c .writes h .0)
       zone c g false t =
           let k = ltb-false (w .place) 64 t in
           let h : ¬ (w .place < 64) = λ q. omega arith in
-          (ap zoneOf (f .kept h) ∙ c .stays h, ap formed (f .kept h) ∙ g)
+          let same : changed z w ≡ z = no-place z (w .place) (w .entry) (v .placesAre) (omega arith) in
+          (ap zoneOf same ∙ c .stays h, ap formed same ∙ g)
+
+  -- a request of a kind is the one that the rules name
+  pub promise-same : (other : rules.Zone → Outcome) (r q : Answered) → other (zoneOf z) ≡ request (zoneOf z) → q ≡ r → Promised z refusal (request (zoneOf z)) r → Promised z refusal (other (zoneOf z)) q
+  promise-same other r q e f p =
+      record {
+        refusalIs = ap (λ (a : Answered). a .refusal) f ∙ p .refusalIs;
+        answerIs = ap (λ (a : Answered). a .answer) f ∙ p .answerIs ∙ ap (λ (o : Outcome). cond (eqb refusal 0) (numberOf (o .answer)) 0) (sym e);
+        kept = λ k. ap (λ (a : Answered). a .zone) f ∙ p .kept k;
+        done = λ k. ap (λ (a : Answered). zoneOf (a .zone)) f ∙ p .done k ∙ ap (λ (o : Outcome). o .zone) (sym e);
+        formedAgain = λ k. ap (λ (a : Answered). formed (a .zone)) f ∙ p .formedAgain k;
+      }

@@ -6,7 +6,7 @@ use Prim.Native.Nat.{ℕ, zero, suc, _+_, _≤_, _<_}
 use native.Mathlib.Nat.{add-zero}
 use native.Mathlib.Numerals.{add-one}
 use native.Mathlib.Omega.{arith}
-use lib.Dec.{ltb}
+use lib.Dec.{leb, ltb}
 use lib.ListN.{length, getD, set, take, drop, drop-of-length-le, length-map}
 use lib.Seq.{drop-cons, take-suc-set, take-set-le}
 use borrow.Author.Tests.{ltb-true, lt-ltb, le-ltb}
@@ -14,10 +14,10 @@ use Rattle.dname.specs.Name.{key, sameName}
 use Rattle.dname.proofs.NameLaws.{same-name-key, key-same-name}
 use Rattle.hosts.specs.Count.{Octets, member, distinct}
 use Rattle.hosts.proofs.CountLaws.{true≢false, member-here, member-on}
-use Rattle.hosts.specs.Addresses.{one}
+use Rattle.hosts.specs.Addresses.{one, list4, list6, sound}
 use Rattle.zone.specs.declared.entry.Entry.{Entry}
 use Rattle.zone.specs.declared.survey.Zone.{Zone}
-use Rattle.zone.specs.Meaning.{nameOf, used, inOrder, keyOf, keys, allInOrder}
+use Rattle.zone.specs.Meaning.{nameOf, isFull, used, inOrder, keyOf, keys, allInOrder}
 use Rattle.zone.specs.Survey.{named, placeFrom}
 use Rattle.zone.proofs.entry.Entry as place
 
@@ -87,6 +87,16 @@ module _ (es : List Entry) (d : Entry) (i : ℕ) (h : i < length es) where
 
   pub order-free : used it ≡ false → true ≡ cond (used it) (inOrder it) true
   order-free u = rw u
+
+  -- a used place, from what was found of its parts
+  pub order-used : used it ≡ true → (fine full sets : Bool) → fine ≡ (leb (it .kind) 2 && (full && sets)) → full ≡ isFull (nameOf (it .name))
+      → sets ≡ (sound (it .v4 .count) (list4 (it .v4)) && sound (it .v6 .count) (list6 (it .v6))) → fine ≡ cond (used it) (inOrder it) true
+  unfolding inOrder
+  order-used u fine full sets e f g = e ∙ ap (λ (b : Bool). leb (it .kind) 2 && (b && sets)) f ∙ ap (λ (b : Bool). leb (it .kind) 2 && (isFull (nameOf (it .name)) && b)) g ∙ sym (rw u)
+
+  pub named-used : used it ≡ true → (n : Octets) (hit : Bool) → hit ≡ sameName (nameOf (it .name)) n → hit ≡ named n it
+  unfolding named
+  named-used u n hit e = e ∙ sym (rw u)
 
 -- ---- its end
 

@@ -2,35 +2,40 @@
 use mathlib.Core.Path.{_≡_}
 use mathlib.Core.Bool.{Bool, true, false, cond, not, _&&_, _||_}
 use mathlib.Core.List.{List, [], _∷_}
-use Prim.Native.Nat.{ℕ, suc, _+_, _*_, _<_}
+use Prim.Native.Nat.{ℕ, zero, suc, _+_, _*_, _/_, _%_, _<_}
 use lib.Dec.{eqb}
-use lib.ListN.{length, getD, set}
-use Rattle.octets.specs.Compare.{sameOctets}
+use lib.ListN.{length, getD}
+use Rattle.octets.specs.Number.{numberAt}
 use Rattle.dname.specs.Name.{key, sameName}
 use Rattle.hosts.specs.Count.{Octets, distinct}
 use Rattle.hosts.specs.Addresses.{nothing}
 use Rattle.zone.specs.declared.name.Name.{Name}
 use Rattle.zone.specs.declared.entry.Address.{Address}
 use Rattle.zone.specs.declared.entry.Entry.{Entry}
-use Rattle.zone.specs.declared.entry.Seen.{Seen}
 use Rattle.zone.specs.declared.survey.Zone.{Zone}
 use Rattle.zone.specs.declared.survey.Survey.{Survey}
 use Rattle.zone.specs.declared.decide.Change.{Change}
 use Rattle.zone.specs.Zone as rules
 use Rattle.zone.specs.Zone.{Host, Update, address, fits, Outcome}
 use Rattle.zone.specs.Meaning.{nameOf, hostOf, used, inOrder, keyOf, keys, allInOrder, zoneOf, formed, familyOf, addressOf}
-use Rattle.zone.specs.declared.request.Answered.{Answered}
-use Rattle.zone.specs.Promise.{numberOf}
+use Rattle.zone.specs.Promise.{numberOf, refusalOf, written}
 
 -- ---- fingerprints: equal names have equal ones
 
--- a running sum, the sum of those, and the sum of these in turn
-unfoldable pub printFrom : ℕ → ℕ → ℕ → List ℕ → ℕ
-printFrom sum sums third [] = third * 16777216 + sums
-printFrom sum sums third (x ∷ s) = printFrom (sum + x) (sums + (sum + x)) (third + (sums + (sum + x))) s
+-- the sum of some numbers and the sum of its running sums, as one number
+unfoldable pub mix : ℕ → ℕ → ℕ
+mix sum sums = (sums * 1000003 + sum) % 4294967291
+
+-- n words of four octets from a place on, and the word behind them
+unfoldable pub printFrom : ℕ → ℕ → ℕ → ℕ → List ℕ → ℕ
+printFrom zero i sum sums s = mix (sum + numberAt 4 s i) (sums + (sum + numberAt 4 s i))
+printFrom (suc n) i sum sums s = printFrom n (i + 4) (sum + numberAt 4 s i) (sums + (sum + numberAt 4 s i)) s
+
+unfoldable pub printWords : Octets → ℕ
+printWords s = printFrom (length s / 4) 0 0 0 s
 
 abbrev pub printOf : Octets → ℕ
-printOf name = printFrom 0 0 0 (key name)
+printOf name = printWords (key name)
 
 unfoldable pub among : ℕ → List ℕ → Bool
 among x [] = false
@@ -44,12 +49,6 @@ repeated (x ∷ l) = among x l || repeated l
 
 unfoldable pub named : Octets → Entry → Bool
 named n e = used e && sameName (nameOf (e .name)) n
-
-pub record Looked (n : Octets) (e : Entry) (r : Seen) : Type 0 where
-  pub usedIs : r .used ≡ used e
-  pub orderIs : r .inorder ≡ cond (used e) (inOrder e) true
-  pub namedIs : r .named ≡ named n e
-  pub printIs : used e ≡ true → r .print ≡ printOf (nameOf (e .name))
 
 -- ---- the places of a zone
 
@@ -67,12 +66,16 @@ pub record Found (z : Zone) (n : Octets) (s : Survey) : Type 0 where
 
 pub record Surveyed (z : Zone) (n : Octets) (s : Survey) : Type 0 where
   pub places : Found z n s
-  pub clearNames : s .clear ≡ true → distinct (keys (z .entries)) ≡ true
+  pub distinctIs : s .distinct ≡ distinct (keys (z .entries))
+
+-- the refusal that follows from a survey
+pub record Refuses (n : Octets) (family policy : ℕ) (s : Survey) (r : ℕ) : Type 0 where
+  pub refuses : (z : Zone) → Surveyed z n s → r ≡ refusalOf z n family policy
 
 -- ---- what a request comes to: an answer, and one place written, or none where it says 64
 
 abbrev pub changed : Zone → Change → Zone
-changed z w = record { entries = set (z .entries) (w .place) (w .entry) }
+changed z w = written z (w .place) (w .entry)
 
 pub record Decided (z : Zone) (right : Outcome) (w : Change) : Type 0 where
   pub answerIs : w .answer ≡ numberOf (right .answer)
@@ -82,13 +85,6 @@ pub record Decided (z : Zone) (right : Outcome) (w : Change) : Type 0 where
 -- a request decided on a survey: right for every zone in form that the survey is of
 pub record Decides (request : rules.Zone → Outcome) (n : Octets) (s : Survey) (w : Change) : Type 0 where
   pub decides : (z : Zone) → formed z ≡ true → Found z n s → Decided z (request (zoneOf z)) w
-
--- and done
-pub record Finished (z : Zone) (w : Change) (r : Answered) : Type 0 where
-  pub refusalIs : r .refusal ≡ 0
-  pub answerIs : r .answer ≡ w .answer
-  pub kept : ¬ (w .place < 64) → r .zone ≡ z
-  pub wrote : w .place < 64 → r .zone ≡ changed z w
 
 -- an entry r made of e: the same name and kind, in order, and what it means
 pub record Kept (e r : Entry) (h : Host) : Type 0 where

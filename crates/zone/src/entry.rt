@@ -6,9 +6,12 @@ use hosts::set4::Set4;
 use hosts::set6;
 use hosts::set6::Set6;
 ghost use mathlib.Core.Path.{_≡_};
+ghost use mathlib.Core.Bool.{_&&_};
+ghost use lib.Dec.{leb};
+ghost use Rattle.hosts.specs.Addresses.{list4, list6, sound};
 ghost use Rattle.zone.specs.Zone.{heldBy, empty};
-ghost use Rattle.zone.specs.Meaning.{nameOf, hostOf, inOrder};
-ghost use Rattle.zone.specs.Survey.{printOf, named, Looked};
+ghost use Rattle.zone.specs.Meaning.{nameOf, hostOf};
+ghost use Rattle.zone.specs.Survey.{named};
 
 #[repr(C)]
 pub struct Dhcid {
@@ -32,65 +35,28 @@ pub struct Entry {
     pub v6: Set6,
 }
 
-// What a look at one place shows: whether a name stands there, whether the place is in order,
-// whether the name is the one that is wanted, and its fingerprint.
-pub(crate) struct Seen {
-    pub used: bool,
-    pub inorder: bool,
-    pub named: bool,
-    pub print: u64,
-}
-
-// Whether a used place has the form that it must have.
-fn in_order(e: Entry) -> bool
-    ensures { λ r. ⌜ r ≡ inOrder e ⌝ }
+// Whether the address sets of a place have their form.
+pub(crate) fn are_sets_sound(v4: Set4, v6: Set6) -> bool
+    ensures { λ r. ⌜ r ≡ (sound (v4 .count) (list4 v4) && sound (v6 .count) (list6 v6)) ⌝ }
 {
-    if e.kind > 2 {
-        return false;
-    }
-    let n = e.name;
-    if !name::is_full(n) {
-        return false;
-    }
-    let v4 = e.v4;
     if !set4::sound4(v4) {
         return false;
     }
-    let v6 = e.v6;
     set6::sound6(v6)
 }
 
-// A look at one place, with a name that is wanted and its fingerprint.
-pub(crate) fn look(e: Entry, wanted: Name, print: u64) -> Seen
-    requires { ⌜ print ≡ printOf (nameOf wanted) ⌝ }
-    ensures { λ r. ⌜ Looked (nameOf wanted) e r ⌝ }
+// Whether a used place is in order: its kind, whether its name is full, and whether its sets have
+// their form.
+pub(crate) fn is_in_order(kind: u8, full: bool, sets: bool) -> bool
+    ensures { λ r. ⌜ r ≡ (leb kind 2 && (full && sets)) ⌝ }
 {
-    if e.kind == 0 {
-        return Seen {
-            used: false,
-            inorder: true,
-            named: false,
-            print: 0,
-        };
+    if kind > 2 {
+        return false;
     }
-    let n = e.name;
-    let own = name::print(n);
-    let inorder = in_order(e);
-    if own != print {
-        return Seen {
-            used: true,
-            inorder: inorder,
-            named: false,
-            print: own,
-        };
+    if !full {
+        return false;
     }
-    let named = name::same(n, wanted);
-    Seen {
-        used: true,
-        inorder: inorder,
-        named: named,
-        print: own,
-    }
+    sets
 }
 
 // Whether the DHCID holds the name that stands there.
@@ -125,6 +91,5 @@ pub(crate) fn is_named(e: Entry, n: Name) -> bool
     if e.kind == 0 {
         return false;
     }
-    let m = e.name;
-    name::same(m, n)
+    name::same(&e.name.octets, e.name.len, &n.octets, n.len)
 }

@@ -4,16 +4,39 @@ use crate::decide;
 use crate::decide::Change;
 use crate::entry::Address;
 use crate::entry::Dhcid;
+use crate::entry::Entry;
 use crate::name;
 use crate::name::Name;
 use crate::survey;
 use crate::survey::Survey;
 use crate::survey::Zone;
 ghost use mathlib.Core.Path.{_≡_};
+ghost use mathlib.Core.Bool.{true};
+ghost use Prim.Native.Nat.{_<_};
 ghost use Rattle.zone.specs.Zone.{requestA, requestB, removeAddress, removeName};
-ghost use Rattle.zone.specs.Meaning.{nameOf, listed, policyOf, updateOf, zoneOf};
-ghost use Rattle.zone.specs.Promise.{refusalOf, Promised};
-ghost use Rattle.zone.specs.Survey.{Surveyed, Finished};
+ghost use Rattle.zone.specs.Meaning.{nameOf, isFull, inOrder, listed, policyOf, updateOf, requestOf, zoneOf};
+ghost use Rattle.zone.specs.Promise.{refusalOf, written as writtenAt, settled, Promised};
+ghost use Rattle.zone.specs.Survey.{Decides, Refuses};
+
+// What is sent. kind: 0 nothing, 1 request A, 2 request B, 3 the first remove request, any other the
+// second. policy: of request B; 0 where there is none.
+pub struct Request {
+    pub kind: u8,
+    pub family: u8,
+    pub policy: u8,
+    pub name: Name,
+    pub dhcid: Dhcid,
+    pub address: Address,
+}
+
+// What a request comes to: the refusal, 0 where there is none, the answer, and one place to write;
+// none where it says 64.
+pub struct Effect {
+    pub refusal: u32,
+    pub answer: u32,
+    pub place: usize,
+    pub entry: Entry,
+}
 
 // refusal: the number of document 01's table, 0 where there is none. answer: 0 success, 3 NXDOMAIN,
 // 6 YXDOMAIN, 8 NXRRSET, 256 no room.
@@ -25,7 +48,7 @@ pub struct Answered {
 }
 
 // Whether the numbers are listed.
-fn is_listed(family: u8, policy: u8) -> bool
+pub fn is_listed(family: u8, policy: u8) -> bool
     ensures { λ r. ⌜ r ≡ listed family policy ⌝ }
 {
     if policy > 2 {
@@ -38,14 +61,13 @@ fn is_listed(family: u8, policy: u8) -> bool
 }
 
 // The refusal, 0 where there is none.
-fn refusal(z: Zone, s: Survey, n: Name, family: u8, policy: u8) -> u32
-    requires { ⌜ Surveyed z (nameOf n) s ⌝ }
-    ensures { λ r. ⌜ r ≡ refusalOf z (nameOf n) family policy ⌝ }
+fn refusal(s: Survey, n: Name, family: u8, policy: u8) -> u32
+    ensures { λ r. ⌜ Refuses (nameOf n) family policy s r ⌝ }
 {
     if !s.inorder {
         return 17;
     }
-    if !survey::names_differ(z, s.clear) {
+    if !s.distinct {
         return 17;
     }
     if !is_listed(family, policy) {
@@ -57,24 +79,73 @@ fn refusal(z: Zone, s: Survey, n: Name, family: u8, policy: u8) -> u32
     0
 }
 
-// The one function that writes a place.
-fn finish(mut z: Zone, w: Change) -> Answered
-    ensures { λ r. ⌜ Finished z w r ⌝ }
+// What a request that is not refused comes to.
+fn change_of(s: Survey, q: Request) -> Change
+    requires { ⌜ (isFull (nameOf (q .name)) ≡ true) × (s .found < 64 → inOrder (s .entry) ≡ true) ⌝ }
+    ensures { λ r. ⌜ Decides (requestOf (q .kind) (q .policy) (updateOf (q .name) (q .dhcid) (q .family) (q .address))) (nameOf (q .name)) s r ⌝ }
 {
-    if w.place >= 64 {
-        return Answered {
-            refusal: 0,
-            answer: w.answer,
-            zone: z,
+    if q.kind == 0 {
+        return decide::nothing(s);
+    }
+    if q.kind == 1 {
+        return decide::add_name(s, q.name, q.dhcid, q.family, q.address);
+    }
+    if q.kind == 2 {
+        return decide::add_address(s, q.name, q.dhcid, q.family, q.address, q.policy);
+    }
+    if q.kind == 3 {
+        return decide::remove_address(s, q.name, q.dhcid, q.family, q.address);
+    }
+    decide::remove_name(s, q.name, q.dhcid, q.family, q.address)
+}
+
+// What a request on a zone comes to, before a place is written.
+pub fn effect_of(zone: Zone, q: Request) -> Effect
+    ensures { λ r. ⌜ Promised zone (refusalOf zone (nameOf (q .name)) (q .family) (q .policy)) (requestOf (q .kind) (q .policy) (updateOf (q .name) (q .dhcid) (q .family) (q .address)) (zoneOf zone)) (settled zone r) ⌝ }
+{
+    let n = q.name;
+    let s = survey::survey_of(zone, n);
+    let refused = refusal(s, n, q.family, q.policy);
+    if refused != 0 {
+        let e = s.entry;
+        return Effect {
+            refusal: refused,
+            answer: 0,
+            place: 64,
+            entry: e,
         };
     }
-    let at = w.place;
+    let w = change_of(s, q);
     let e = w.entry;
-    z.entries[at] = e;
-    Answered {
+    Effect {
         refusal: 0,
         answer: w.answer,
-        zone: z,
+        place: w.place,
+        entry: e,
+    }
+}
+
+// The zone with one place written, or as it is where there is no such place.
+pub fn written(zone: Zone, place: usize, entry: Entry) -> Zone
+    ensures { λ r. ⌜ r ≡ writtenAt zone place entry ⌝ }
+{
+    let mut z = zone;
+    if place < 64 {
+        z.entries[place] = entry;
+    }
+    z
+}
+
+// The zone after a request, with its answer.
+fn settle(zone: Zone, w: Effect) -> Answered
+    ensures { λ r. ⌜ r ≡ settled zone w ⌝ }
+{
+    let e = w.entry;
+    let after = written(zone, w.place, e);
+    Answered {
+        refusal: w.refusal,
+        answer: w.answer,
+        zone: after,
     }
 }
 
@@ -85,7 +156,7 @@ pub extern "C" fn jespurla_zone_check(zone: Zone, name: Name, family: u8, policy
     ensures { λ r. ⌜ r ≡ refusalOf zone (nameOf name) family policy ⌝ }
 {
     let s = survey::survey_of(zone, name);
-    refusal(zone, s, name, family, policy)
+    refusal(s, name, family, policy)
 }
 
 // Request A: adds an absent name with the DHCID and the address.
@@ -99,17 +170,16 @@ pub extern "C" fn jespurla_request_a(
 ) -> Answered
     ensures { λ r. ⌜ Promised zone (refusalOf zone (nameOf name) family 0) (requestA (updateOf name dhcid family address) (zoneOf zone)) r ⌝ }
 {
-    let s = survey::survey_of(zone, name);
-    let refused = refusal(zone, s, name, family, 0);
-    if refused != 0 {
-        return Answered {
-            refusal: refused,
-            answer: 0,
-            zone: zone,
-        };
-    }
-    let w = decide::add_name(s, name, dhcid, family, address);
-    finish(zone, w)
+    let q = Request {
+        kind: 1,
+        family: family,
+        policy: 0,
+        name: name,
+        dhcid: dhcid,
+        address: address,
+    };
+    let w = effect_of(zone, q);
+    settle(zone, w)
 }
 
 // Request B: at a name that the DHCID holds, deletes by policy, then adds the address.
@@ -124,17 +194,16 @@ pub extern "C" fn jespurla_request_b(
 ) -> Answered
     ensures { λ r. ⌜ Promised zone (refusalOf zone (nameOf name) family policy) (requestB (policyOf policy) (updateOf name dhcid family address) (zoneOf zone)) r ⌝ }
 {
-    let s = survey::survey_of(zone, name);
-    let refused = refusal(zone, s, name, family, policy);
-    if refused != 0 {
-        return Answered {
-            refusal: refused,
-            answer: 0,
-            zone: zone,
-        };
-    }
-    let w = decide::add_address(s, name, dhcid, family, address, policy);
-    finish(zone, w)
+    let q = Request {
+        kind: 2,
+        family: family,
+        policy: policy,
+        name: name,
+        dhcid: dhcid,
+        address: address,
+    };
+    let w = effect_of(zone, q);
+    settle(zone, w)
 }
 
 // The first remove request: at a name that the DHCID holds, deletes the address.
@@ -148,17 +217,16 @@ pub extern "C" fn jespurla_request_remove_address(
 ) -> Answered
     ensures { λ r. ⌜ Promised zone (refusalOf zone (nameOf name) family 0) (removeAddress (updateOf name dhcid family address) (zoneOf zone)) r ⌝ }
 {
-    let s = survey::survey_of(zone, name);
-    let refused = refusal(zone, s, name, family, 0);
-    if refused != 0 {
-        return Answered {
-            refusal: refused,
-            answer: 0,
-            zone: zone,
-        };
-    }
-    let w = decide::remove_address(s, name, dhcid, family, address);
-    finish(zone, w)
+    let q = Request {
+        kind: 3,
+        family: family,
+        policy: 0,
+        name: name,
+        dhcid: dhcid,
+        address: address,
+    };
+    let w = effect_of(zone, q);
+    settle(zone, w)
 }
 
 // The second remove request: deletes a name that the DHCID holds and that has no address.
@@ -172,15 +240,14 @@ pub extern "C" fn jespurla_request_remove_name(
 ) -> Answered
     ensures { λ r. ⌜ Promised zone (refusalOf zone (nameOf name) family 0) (removeName (updateOf name dhcid family address) (zoneOf zone)) r ⌝ }
 {
-    let s = survey::survey_of(zone, name);
-    let refused = refusal(zone, s, name, family, 0);
-    if refused != 0 {
-        return Answered {
-            refusal: refused,
-            answer: 0,
-            zone: zone,
-        };
-    }
-    let w = decide::remove_name(s, name, dhcid, family, address);
-    finish(zone, w)
+    let q = Request {
+        kind: 4,
+        family: family,
+        policy: 0,
+        name: name,
+        dhcid: dhcid,
+        address: address,
+    };
+    let w = effect_of(zone, q);
+    settle(zone, w)
 }

@@ -18,12 +18,11 @@ pub struct Zone {
     pub entries: [Entry; 64],
 }
 
-// inorder: every place is in order. clear: no two fingerprints are equal, so no two names are.
-// found: the place of the wanted name, and free: a free place, each 64 where there is none.
-// entry: what stands at the place found.
+// inorder: every place is in order. distinct: no two names are equal. found: the place of the wanted
+// name, and free: a free place, each 64 where there is none. entry: what stands at the place found.
 pub(crate) struct Survey {
     pub inorder: bool,
-    pub clear: bool,
+    pub distinct: bool,
     pub found: usize,
     pub free: usize,
     pub entry: Entry,
@@ -39,45 +38,6 @@ fn choose(b: bool, x: usize, y: usize) -> usize
     ensures { λ r. ⌜ r ≡ cond b x y ⌝ }
 {
     if b { x } else { y }
-}
-
-// The one walk over all places. It tells names apart by their fingerprints: where two of those are
-// equal, two names may be.
-pub(crate) fn survey_of(z: Zone, wanted: Name) -> Survey
-    ensures { λ r. ⌜ Surveyed z (nameOf wanted) r ⌝ }
-{
-    let print = name::print(wanted);
-    let mut prints = [0u64; 64];
-    let mut used: usize = 0;
-    let mut inorder = true;
-    let mut found: usize = 64;
-    let mut free: usize = 64;
-    let mut i: usize = 0;
-    while i < 64 {
-        let kind = z.entries[i].kind;
-        if kind == 0 {
-            free = i;
-            i += 1;
-        } else {
-            let e = z.entries[i];
-            let seen = entry::look(e, wanted, print);
-            prints[used] = seen.print;
-            used += 1;
-            inorder = both(inorder, seen.inorder);
-            found = choose(seen.named, i, found);
-            i += 1;
-        }
-    }
-    let repeats = print::repeats(&prints[..used]);
-    let at = choose(found < 64, found, 0);
-    let e = z.entries[at];
-    Survey {
-        inorder: inorder,
-        clear: !repeats,
-        found: found,
-        free: free,
-        entry: e,
-    }
 }
 
 // Whether the name stands at a place or behind it.
@@ -115,7 +75,7 @@ fn distinct_names(z: Zone) -> bool
 }
 
 // Whether no two names are equal. The places are read again only where two fingerprints are equal.
-pub(crate) fn names_differ(z: Zone, clear: bool) -> bool
+fn names_differ(z: Zone, clear: bool) -> bool
     requires { ⌜ (clear ≡ true → distinct (keys (z .entries)) ≡ true) ⌝ }
     ensures { λ r. ⌜ r ≡ distinct (keys (z .entries)) ⌝ }
 {
@@ -123,4 +83,55 @@ pub(crate) fn names_differ(z: Zone, clear: bool) -> bool
         return true;
     }
     distinct_names(z)
+}
+
+// The one walk over all places. It tells names apart by their fingerprints: where two of those are
+// equal, the names are compared.
+pub(crate) fn survey_of(z: Zone, wanted: Name) -> Survey
+    ensures { λ r. ⌜ Surveyed z (nameOf wanted) r ⌝ }
+{
+    let print = name::print(&wanted.octets, wanted.len);
+    let mut prints = [0u32; 64];
+    let mut used: usize = 0;
+    let mut inorder = true;
+    let mut found: usize = 64;
+    let mut free: usize = 64;
+    let mut i: usize = 0;
+    while i < 64 {
+        let kind = z.entries[i].kind;
+        if kind == 0 {
+            free = i;
+            i += 1;
+        } else {
+            let e = z.entries[i];
+            let own = name::print(&e.name.octets, e.name.len);
+            prints[used] = own;
+            used += 1;
+            let full = name::are_full(&e.name.octets, e.name.len);
+            let sets = entry::are_sets_sound(e.v4, e.v6);
+            let fine = entry::is_in_order(kind, full, sets);
+            inorder = both(inorder, fine);
+            let named = name::same_by_print(
+                own,
+                &e.name.octets,
+                e.name.len,
+                print,
+                &wanted.octets,
+                wanted.len,
+            );
+            found = choose(named, i, found);
+            i += 1;
+        }
+    }
+    let repeats = print::repeats(&prints[..used]);
+    let distinct = names_differ(z, !repeats);
+    let at = choose(found < 64, found, 0);
+    let e = z.entries[at];
+    Survey {
+        inorder: inorder,
+        distinct: distinct,
+        found: found,
+        free: free,
+        entry: e,
+    }
 }

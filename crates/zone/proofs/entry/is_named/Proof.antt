@@ -15,7 +15,7 @@ same-requires c κs = search needs
 
 returns-2 : tie.Need-returns-2
 unfolding used named
-returns-2 c = simp (ne-eqb _ _ (c .before .before .if1 .left)) (c .same .ensures)
+returns-2 c = simp (ne-eqb _ _ (c .before .before .before .before .before .before .before .if1 .left)) (c .same .ensures)
 
 pub is-named-spec : {M : Type 1} → statement M
 is-named-spec = tie.close (tie.spec returns same-requires returns-2)

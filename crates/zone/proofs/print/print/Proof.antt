@@ -1,27 +1,25 @@
 use mathlib.Core.Path.{_≡_, refl, sym, _∙_, ap}
 use Prim.Native.Nat.{ℕ, _≤_, _-_, _+_, _*_}
 use native.Mathlib.Omega.{arith}
-use lib.ListN.{length, drop, getD}
+use lib.ListN.{length}
 use borrow.Author.Needs.{needs}
-use Rattle.zone.specs.Survey.{printFrom}
+use Rattle.octets.specs.Number.{numberAt}
+use Rattle.zone.specs.Survey.{mix, printFrom, printWords}
 use Rattle.zone.proofs.PrintLaws.{print-step, print-end}
 use Rattle.zone.proofs.print.print.Statement.{statement}
 use Rattle.zone.proofs.print.print.Tie as tie
 
 abbrev Inv-loop : tie.InvT-loop
-Inv-loop s sum₀ sums₀ third₀ i₀ sum sums third i = (i ≤ length s) × (sum ≤ 255 * i) × (sums ≤ 65025 * i) × (third ≤ 16581375 * i) × (printFrom 0 0 0 s ≡ printFrom sum sums third (drop i s))
+Inv-loop s sum₀ sums₀ i₀ left₀ sum sums i left = (i + 4 * left ≤ length s) × (sum ≤ 1073741824 * i) × (sums ≤ 68719476736 * i) × (printWords s ≡ printFrom left i sum sums s)
 
 abbrev μ-loop : tie.MeasureT-loop
-μ-loop s sum₀ sums₀ third₀ i₀ sum sums third i = length s - i
+μ-loop s sum₀ sums₀ i₀ left₀ sum sums i left = left
 
 loop-holds : tie.Need-loop-holds Inv-loop μ-loop
-loop-holds c = (search needs, search needs, search needs, search needs, refl)
+loop-holds c = (omega arith, search needs, search needs, unfold printWords in refl)
 
-shared-slice-read-wide : tie.Need-shared-slice-read-wide Inv-loop μ-loop
-shared-slice-read-wide c = omega arith
-
-wide-requires : tie.Need-wide-requires Inv-loop μ-loop
-wide-requires c κs = search needs
+word-requires : tie.Need-word-requires Inv-loop μ-loop
+word-requires c κs = omega arith
 
 add-sum : tie.Need-add-sum Inv-loop μ-loop
 add-sum c = omega arith
@@ -29,33 +27,44 @@ add-sum c = omega arith
 add-sums : tie.Need-add-sums Inv-loop μ-loop
 add-sums c = omega arith
 
-add-third : tie.Need-add-third Inv-loop μ-loop
-add-third c = omega arith
-
 add-i : tie.Need-add-i Inv-loop μ-loop
 add-i c = omega arith
+
+sub-left : tie.Need-sub-left Inv-loop μ-loop
+sub-left c = omega arith
 
 loop-less : tie.Need-loop-less Inv-loop μ-loop
 loop-less c = omega arith
 
 loop-again : tie.Need-loop-again Inv-loop μ-loop
 loop-again c =
-    let s = c .before .before .before .before .before .args .s .now in
-    let l = c .before .before .before .loop in
-    let x = getD s (l .i) 0 in
-    let h : printFrom 0 0 0 s ≡ printFrom (l .sum + x) (l .sums + (l .sum + x)) (l .third + (l .sums + (l .sum + x))) (drop (l .i + 1) s) = l .inv .4 ∙ print-step s (l .i) (l .sum) (l .sums) (l .third) (omega arith) in
-    (omega arith, omega arith, omega arith, omega arith, h ∙ ap (λ (y : ℕ). printFrom (l .sum + y) (l .sums + (l .sum + y)) (l .third + (l .sums + (l .sum + y))) (drop (l .i + 1) s)) (sym (c .wide .ensures .0)))
+    let s = c .before .before .before .before .args .s .now in
+    let l = c .before .before .loop in
+    let w = c .word .ensures .0 in
+    let h : printWords s ≡ printFrom (l .left - 1) (l .i + 4) (l .sum + numberAt 4 s (l .i)) (l .sums + (l .sum + numberAt 4 s (l .i))) s = l .inv .3 ∙ print-step (l .left) (l .left - 1) (l .i) (l .sum) (l .sums) s (omega arith) in
+    (omega arith, omega arith, omega arith, h ∙ ap (λ (y : ℕ). printFrom (l .left - 1) (l .i + 4) (l .sum + y) (l .sums + (l .sum + y)) s) (sym w))
 
-mul-result : tie.Need-mul-result Inv-loop μ-loop
-mul-result c = omega arith
+last-word-requires : tie.Need-last-word-requires Inv-loop μ-loop
+last-word-requires c κs = search needs
 
-add-result : tie.Need-add-result Inv-loop μ-loop
-add-result c = omega arith
+add-mixed : tie.Need-add-mixed Inv-loop μ-loop
+add-mixed c = omega arith
+
+add-mixed-2 : tie.Need-add-mixed-2 Inv-loop μ-loop
+add-mixed-2 c = omega arith
+
+add-mixed-3 : tie.Need-add-mixed-3 Inv-loop μ-loop
+add-mixed-3 c = omega arith
+
+mixed-requires : tie.Need-mixed-requires Inv-loop μ-loop
+mixed-requires c κs = (omega arith, omega arith)
 
 returns : tie.Need-returns Inv-loop μ-loop
 returns c =
-    let l = c .before .loop in
-    sym (l .inv .4 ∙ print-end (c .before .before .before .args .s .now) (l .i) (l .sum) (l .sums) (l .third) (omega arith))
+    let s = c .before .before .before .before .before .args .s .now in
+    let l = c .before .before .before .loop in
+    let w = c .before .last-word .ensures .0 in
+    c .mixed .ensures ∙ ap (λ (y : ℕ). mix (l .sum + y) (l .sums + (l .sum + y))) w ∙ sym (l .inv .3 ∙ print-end (l .left) (l .i) (l .sum) (l .sums) s (omega arith))
 
 pub print-spec : {M : Type 1} → statement M
 print-spec =
@@ -64,14 +73,16 @@ print-spec =
     Inv-loop
     μ-loop
     loop-holds
-    shared-slice-read-wide
-    wide-requires
+    word-requires
     add-sum
     add-sums
-    add-third
     add-i
+    sub-left
     loop-less
     loop-again
-    mul-result
-    add-result
+    last-word-requires
+    add-mixed
+    add-mixed-2
+    add-mixed-3
+    mixed-requires
     returns)

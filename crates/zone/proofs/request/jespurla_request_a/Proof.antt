@@ -1,42 +1,22 @@
+use mathlib.Core.Path.{_≡_, refl}
 use Rattle.zone.specs.Zone.{requestA}
-use Rattle.zone.specs.Meaning.{nameOf, updateOf}
-use Rattle.zone.proofs.PromiseLaws.{passed, promise-refused, promise-done}
+use Rattle.zone.specs.Meaning.{nameOf, updateOf, requestOf}
+use Rattle.zone.proofs.PromiseLaws.{promise-same}
 use borrow.Author.Needs.{needs}
 use Rattle.zone.proofs.request.jespurla_request_a.Statement.{statement}
 use Rattle.zone.proofs.request.jespurla_request_a.Tie as tie
 
-survey-of-requires : tie.Need-survey-of-requires
-survey-of-requires c κs = search needs
+effect-of-requires : tie.Need-effect-of-requires
+effect-of-requires c κs = search needs
 
-refusal-requires : tie.Need-refusal-requires
-refusal-requires c κs = search needs
+settle-requires : tie.Need-settle-requires
+settle-requires c κs = search needs
 
 returns : tie.Need-returns
+unfolding requestOf
 returns c =
-    let s = c .before .before .before in
-    promise-refused (s .args .zone) (nameOf (s .args .name)) (s .args .family) 0 (requestA (updateOf (s .args .name) (s .args .dhcid) (s .args .family) (s .args .address))) _ (c .before .refusal .ensures) (c .if1 .taken)
-
-add-name-requires : tie.Need-add-name-requires
-add-name-requires c κs =
-    let s = c .before .before .before in
-    passed (s .args .zone) (nameOf (s .args .name)) (s .args .family) 0 _ (c .before .refusal .ensures) (c .if1 .left) .name
-
-finish-requires : tie.Need-finish-requires
-finish-requires c κs = search needs
-
-returns-2 : tie.Need-returns-2
-returns-2 c =
-    let s = c .before .before .before .before .before in
-    let v = c .before .before .before .before .survey-of .ensures in
-    promise-done (s .args .zone) (nameOf (s .args .name)) (s .args .family) 0 (requestA (updateOf (s .args .name) (s .args .dhcid) (s .args .family) (s .args .address))) _ _ _ _ (c .before .before .before .refusal .ensures) (c .before .before .if1 .left) (v .places) (c .before .add-name .ensures) (c .finish .ensures)
+    let a = c .before .before .args in
+    promise-same (a .zone) (nameOf (a .name)) (a .family) 0 (requestOf 1 0 (updateOf (a .name) (a .dhcid) (a .family) (a .address))) (requestA (updateOf (a .name) (a .dhcid) (a .family) (a .address))) _ _ refl (c .settle .ensures) (c .before .effect-of .ensures)
 
 pub jespurla-request-a-spec : {M : Type 1} → statement M
-jespurla-request-a-spec =
-    tie.close
-    (tie.spec
-    survey-of-requires
-    refusal-requires
-    returns
-    add-name-requires
-    finish-requires
-    returns-2)
+jespurla-request-a-spec = tie.close (tie.spec effect-of-requires settle-requires returns)

@@ -4,17 +4,11 @@ use lib.ListN.{length}
 use Rattle.zone.specs.Meaning.{full, isFull}
 use Rattle.zone.proofs.PrintLaws.{prefix-length}
 use borrow.Author.Needs.{needs}
-use Rattle.zone.proofs.name.is_full.Statement.{statement}
-use Rattle.zone.proofs.name.is_full.Tie as tie
-
-cast-len : tie.Need-cast-len
-cast-len c = search needs
-
-array-share-prefix-o : tie.Need-array-share-prefix-o
-array-share-prefix-o c = let h : length (c .before .before .args .n .octets) ≡ 255 = search needs in omega arith
+use Rattle.zone.proofs.name.are_full.Statement.{statement}
+use Rattle.zone.proofs.name.are_full.Tie as tie
 
 slice-aggregate-shape-of : tie.Need-slice-aggregate-shape-of
-slice-aggregate-shape-of c = let h : length (c .before .before .before .args .n .octets) ≡ 255 = search needs in prefix-length _ _ (omega arith)
+slice-aggregate-shape-of c = prefix-length _ _ (search needs)
 
 shape-of-requires : tie.Need-shape-of-requires
 shape-of-requires c κs = search needs
@@ -47,12 +41,10 @@ returns-4 : tie.Need-returns-4
 unfolding isFull
 returns-4 c = sym (ap full (sym (c .before .before .shape-of .ensures) ∙ c .enum-told4 .given .1))
 
-pub is-full-spec : {M : Type 1} → statement M
-is-full-spec =
+pub are-full-spec : {M : Type 1} → statement M
+are-full-spec =
     tie.close
     (tie.spec
-    cast-len
-    array-share-prefix-o
     slice-aggregate-shape-of
     shape-of-requires
     enum-told

@@ -1,0 +1,14 @@
+use mathlib.Core.Path.{_≡_, ap}
+use Rattle.zone.specs.declared.survey.Zone.{Zone}
+use borrow.Author.Needs.{needs}
+use Rattle.zone.proofs.request.settle.Statement.{statement}
+use Rattle.zone.proofs.request.settle.Tie as tie
+
+written-requires : tie.Need-written-requires
+written-requires c κs = search needs
+
+returns : tie.Need-returns
+returns c = ap (λ (z : Zone). record { refusal = c .before .before .args .w .refusal; answer = c .before .before .args .w .answer; zone = z }) (c .written .ensures)
+
+pub settle-spec : {M : Type 1} → statement M
+settle-spec = tie.close (tie.spec written-requires returns)
