@@ -1,12 +1,12 @@
 // New jobs.
 use crate::job::Job;
-use crate::stage;
-use dname::Shape;
 use zone::entry::Address;
 use zone::entry::Dhcid;
+use zone::name;
 use zone::name::Name;
+use zone::request;
 ghost use mathlib.Core.Path.{_≡_};
-ghost use Rattle.zone.specs.Meaning.{nameOf, isFull};
+ghost use Rattle.zone.specs.Meaning.{nameOf};
 ghost use Rattle.job.specs.Meaning.{blank};
 ghost use Rattle.job.specs.Promise.{newRefusal, newJob, AddPromise, RemovePromise};
 
@@ -17,28 +17,13 @@ pub struct NewJob {
     pub job: Job,
 }
 
-// Whether it is a full name.
-fn is_full(n: Name) -> bool
-    ensures { λ r. ⌜ r ≡ isFull (nameOf n) ⌝ }
-{
-    let o = n.octets;
-    let len = n.len as usize;
-    let shape = dname::shape_of(&o[..len]);
-    match shape {
-        Shape::Empty => false,
-        Shape::Full => true,
-        Shape::Partial => false,
-        Shape::Malformed => false,
-    }
-}
-
 fn refusal(n: Name, family: u8, policy: u8) -> u32
     ensures { λ r. ⌜ r ≡ newRefusal (nameOf n) family policy ⌝ }
 {
-    if !stage::is_listed(family, policy) {
+    if !request::is_listed(family, policy) {
         return 18;
     }
-    if !is_full(n) {
+    if !name::is_full(n) {
         return 11;
     }
     0

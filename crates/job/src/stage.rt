@@ -1,9 +1,9 @@
 // The numbers that a job may have.
 use crate::job::Job;
+use zone::request;
 ghost use mathlib.Core.Path.{_≡_};
 ghost use mathlib.Core.List.{[], _∷_};
 ghost use Prim.Native.Nat.{_≤_, _<_};
-ghost use Rattle.zone.specs.Meaning.{listed};
 ghost use Rattle.job.specs.Jobs.{among};
 ghost use Rattle.job.specs.Meaning.{canHave, numbersListed};
 
@@ -62,31 +62,18 @@ fn remove_can(stage: u8, count: u8) -> bool
     stage <= 15
 }
 
-// Whether the numbers are listed.
-pub(crate) fn is_listed(family: u8, policy: u8) -> bool
-    ensures { λ r. ⌜ r ≡ listed family policy ⌝ }
-{
-    if policy > 2 {
-        return false;
-    }
-    if family == 4 {
-        return true;
-    }
-    family == 6
-}
-
 // Whether a job's numbers are listed, and its stage can have its count.
 pub(crate) fn numbers_listed(job: Job) -> bool
     ensures { λ r. ⌜ r ≡ numbersListed job ⌝ }
 {
     let stage = job.stage;
     if stage <= 6 {
-        if !is_listed(job.family, job.policy) {
+        if !request::is_listed(job.family, job.policy) {
             return false;
         }
         return add_can(stage, job.count);
     }
-    if !is_listed(job.family, 0) {
+    if !request::is_listed(job.family, 0) {
         return false;
     }
     remove_can(stage, job.count)
