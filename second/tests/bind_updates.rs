@@ -1,10 +1,7 @@
 //! Sends to the second program what was sent to a real BIND; the answers and
 //! what is held at the end must be BIND's.
 
-mod common {
-    pub mod bind;
-    pub mod requests;
-}
+mod common;
 
 use common::bind::{self, Agreed, Line};
 use common::requests::{self, Kind, Reply, Request};

@@ -1,23 +1,7 @@
 //! Compares the product's jobs with the second program, looks for the serial
 //! order of demand 3, and steps what was sent to a real BIND.
 
-// Other tests use the rest of these.
-#[allow(dead_code)]
-mod common {
-    pub mod bind;
-    pub mod faults;
-    pub mod jobs;
-    pub mod names;
-    pub mod random;
-    pub mod requests;
-    pub mod tally;
-    pub mod zones;
-}
-#[allow(dead_code)]
-mod product {
-    pub mod job;
-    pub mod zone;
-}
+mod common;
 
 use std::sync::mpsc::sync_channel;
 use std::thread;
@@ -25,11 +9,13 @@ use std::thread;
 use common::bind::{self, Agreed, Line};
 use common::faults::{first, has_another, number};
 use common::jobs::{self, called, Pool, Start};
+use common::product;
 use common::random::{fresh_seed, Random, FIXED_SEED};
 use common::requests::{Kind, Request};
 use common::tally::Tally;
+use common::twin::Twin;
 use common::zones::no_full_name;
-use product::job::Stepped;
+use jespurla::Stepped;
 use second::job::{self, Job};
 use second::zone::{as_set, check, Entry, Zone, FREE};
 
@@ -151,23 +137,23 @@ struct Member {
 #[derive(Clone)]
 struct Both {
     second: Zone,
-    product: product::zone::Zone,
+    product: jespurla::Zone,
 }
 
 impl Both {
     fn new(zone: &Zone) -> Both {
         Both {
             second: zone.clone(),
-            product: zone.into(),
+            product: zone.twin(),
         }
     }
 
     /// Whether a zone of the product's is of good form and the second
     /// program's. If so, its places are taken over.
-    fn take(&mut self, left: &product::zone::Zone) -> bool {
+    fn take(&mut self, left: &jespurla::Zone) -> bool {
         let mut places = left.entries.iter().zip(&self.second.entries);
         if !places.all(|(left, right)| same_place(left, right)) {
-            let ours = Zone::from(left);
+            let ours = left.twin();
             if check(&ours) != Ok(()) || as_set(&ours) != as_set(&self.second) {
                 return false;
             }
@@ -180,11 +166,11 @@ impl Both {
 
 /// Whether two places are free, or have the same name with the same owner
 /// and addresses in the same order.
-fn same_place(left: &product::zone::Entry, right: &Entry) -> bool {
+fn same_place(left: &jespurla::Entry, right: &Entry) -> bool {
     if left.kind != right.kind || left.kind == FREE {
         return left.kind == right.kind;
     }
-    let left = Entry::from(left);
+    let left = left.twin();
     left.name == right.name
         && left.dhcid == right.dhcid
         && (left.v4.count, left.v6.count) == (right.v4.count, right.v6.count)
@@ -212,22 +198,22 @@ impl List {
 }
 
 /// How the product's step is called.
-type Call = Box<dyn Fn(&product::zone::Zone, &product::job::Job) -> Box<Stepped>>;
+type Call = Box<dyn Fn(&jespurla::Zone, &jespurla::Job) -> Box<Stepped>>;
 
 /// The step on this thread.
 fn here() -> Call {
-    Box::new(|zone, job| Box::new(product::job::step(zone, job)))
+    Box::new(|zone, job| Box::new(jespurla::job_step(zone, job)))
 }
 
 /// The step on a thread with a small stack.
 fn on_a_small_stack() -> Call {
-    let (send, given) = sync_channel::<Box<(product::zone::Zone, product::job::Job)>>(1);
+    let (send, given) = sync_channel::<Box<(jespurla::Zone, jespurla::Job)>>(1);
     let (hand_back, stepped) = sync_channel(1);
     let thread = thread::Builder::new().stack_size(SMALL_STACK);
     let steps = move || {
         for handed in given {
             let (zone, job) = &*handed;
-            let stepped = Box::new(product::job::step(zone, job));
+            let stepped = Box::new(jespurla::job_step(zone, job));
             hand_back.send(stepped).expect("the other side waits");
         }
     };
@@ -260,10 +246,10 @@ impl Run {
     /// Makes a job with both programs. A refused one is blank.
     fn make(&mut self, request: &Request, faults: &[&str]) -> Option<Job> {
         let expected = jobs::fresh(request);
-        let got = product::job::new(request);
+        let got = product::new_job(request);
         let wanted = match &expected {
-            Ok(job) => (0, job.into()),
-            Err(refusal) => (u32::from(*refusal), product::job::Job::BLANK),
+            Ok(job) => (0, job.twin()),
+            Err(refusal) => (u32::from(*refusal), jespurla::Job::BLANK),
         };
         if (got.refusal, got.job) != wanted {
             println!("second {expected:02x?}, product {got:02x?}");
@@ -315,9 +301,9 @@ impl Run {
         let mut next = *job;
         let refusal = job::step_in_place(&mut zone.second, &mut next).err();
         let refusal = refusal.unwrap_or(0);
-        let got = (self.call)(&zone.product, &job.into());
+        let got = (self.call)(&zone.product, &job.twin());
         let same = got.refusal == u32::from(refusal)
-            && got.job == (&next).into()
+            && got.job == next.twin()
             && match refusal {
                 0 => zone.take(&got.zone),
                 _ => got.zone == zone.product,
@@ -327,7 +313,7 @@ impl Run {
             println!("second {refusal} {next:02x?}");
             println!("which left {:02x?}", as_set(&zone.second));
             println!("product {} {:02x?}", got.refusal, got.job);
-            println!("which left {:02x?}", as_set(&(&got.zone).into()));
+            println!("which left {:02x?}", as_set(&got.zone.twin()));
             panic!("the programs differ, seed {}", self.seed);
         }
         self.count(job, &next, refusal, faults);
@@ -495,7 +481,7 @@ impl Run {
         if remaining > ORDER_MAX {
             return;
         }
-        let end = Zone::from(&list.zone.product);
+        let end = list.zone.product.twin();
         let Some(order) = job::serial_order(&list.start, &fresh, &end, &answers) else {
             println!("{fresh:02x?} ended {answers:?}");
             println!("{:02x?} to {:02x?}", as_set(&list.start), as_set(&end));
@@ -584,17 +570,17 @@ fn steps_do_with_a_small_stack() {
 
 /// The product's fresh job.
 fn made(request: &Request) -> Job {
-    let got = product::job::new(request);
+    let got = product::new_job(request);
     assert_eq!(got.refusal, 0);
-    (&got.job).into()
+    got.job.twin()
 }
 
 /// One unrefused step of the product's.
 fn stepped(line: &str, zone: &mut Zone, job: &mut Job) {
-    let got = product::job::step(&(&*zone).into(), &(&*job).into());
+    let got = jespurla::job_step(&zone.twin(), &job.twin());
     assert_eq!(got.refusal, 0, "{line}");
-    *zone = (&got.zone).into();
-    *job = (&got.job).into();
+    *zone = got.zone.twin();
+    *job = got.job.twin();
 }
 
 /// Stepped as jobs, the lists send the very requests that stand there, and

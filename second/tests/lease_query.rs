@@ -1,26 +1,19 @@
 //! Compares the product's lease query call with the second program.
 
-mod common {
-    pub mod faults;
-    pub mod leases;
-    pub mod moments;
-    pub mod queries;
-    pub mod random;
-    pub mod tally;
-}
-mod product {
-    pub mod lease;
-}
+mod common;
 
 use std::thread;
 
 use common::faults::{first, has_another, number};
 use common::leases::{self, Client};
+use common::lent::afresh;
 use common::moments::no_clock;
+use common::product::lease_answer;
 use common::queries::Query;
 use common::random::{fresh_seed, Random, FIXED_SEED};
 use common::tally::Tally;
-use product::lease::LeaseAnswer;
+use common::twin::Twin;
+use jespurla::{LeaseAnswer, Moment};
 use second::lease_query::{answer, Lease, REPLY_MIN};
 use second::{LATEST_MOMENT, NEVER};
 
@@ -128,14 +121,14 @@ struct Case {
 /// aren't lent.
 struct Tables {
     second: Vec<Lease>,
-    product: Vec<product::lease::Lease>,
-    untouched: Vec<product::lease::Lease>,
+    product: Vec<jespurla::Lease>,
+    untouched: Vec<jespurla::Lease>,
 }
 
 impl Tables {
     fn new(random: &mut Random, second: Vec<Lease>) -> Tables {
         let (front, back) = (leases::record(random), leases::record(random));
-        let product = product::lease::table(&[&[front], &second[..], &[back]].concat());
+        let product = [&[front], &second[..], &[back]].concat().twin();
         Tables {
             untouched: product.clone(),
             second,
@@ -143,8 +136,8 @@ impl Tables {
         }
     }
 
-    fn lent(&mut self) -> &mut [product::lease::Lease] {
-        &mut self.product[1..][..self.second.len()]
+    fn lent(&self) -> &[jespurla::Lease] {
+        &self.product[1..][..self.second.len()]
     }
 }
 
@@ -193,8 +186,9 @@ impl Run {
         let expected = answer(case.now, &tables.second, case.server, query, reply);
         let [query, reply] = lend(&mut self.theirs, case);
         let lent = tables.lent();
-        let got = product::lease::lease_query(case.now, lent, case.server, query, reply);
-        if got != LeaseAnswer::from(expected) || self.ours != self.theirs {
+        let server = u32::from_be_bytes(case.server);
+        let got = jespurla::lease_query(Moment(case.now), lent, server, query, reply);
+        if got != lease_answer(expected) || self.ours != *afresh(&self.theirs) {
             self.differ(tables, case, expected, got);
         }
         self.count(&tables.second, case, expected);
@@ -313,7 +307,10 @@ impl Run {
         } else {
             cases.iter().for_each(|case| self.compare(tables, case));
         }
-        assert!(tables.product == tables.untouched, "a table was written");
+        assert!(
+            *afresh(&tables.product) == tables.untouched,
+            "a table was written"
+        );
     }
 
     /// Every octet of a sound query changed, one at a time, and every cut.

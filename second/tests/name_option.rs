@@ -1,16 +1,11 @@
 //! Compares the product's name option calls with the second program.
 
-mod common {
-    pub mod names;
-    pub mod random;
-}
-mod product {
-    pub mod name_option;
-}
+mod common;
 
+use common::lent::afresh;
 use common::names;
+use common::product::number;
 use common::random::{fresh_seed, Random, FIXED_SEED};
-use product::name_option::word;
 use second::name_option::{answer, flag_decision, shape, Shape};
 
 /// Options compared by one run, at the least.
@@ -134,10 +129,10 @@ impl Run {
         let expected = answer(value, suffix, s != 0, n != 0, reply);
         let flags = if expected.is_ok() { reply[0] } else { 0 };
         let [value, suffix, reply] = lend(&mut self.theirs, case);
-        let got = product::name_option::name_option_answer(value, suffix, s, n, reply);
-        let same = got == word(expected.map(|octets| octets as u64));
-        if !same || self.ours != self.theirs {
-            println!("second {expected:?}, product {got:#x}, {case:02x?}");
+        let got = jespurla::name_option_answer(value, suffix, s, n, reply);
+        let same = got == number(expected.map(|octets| octets as u64));
+        if !same || self.ours != *afresh(&self.theirs) {
+            println!("second {expected:?}, product {got:x?}, {case:02x?}");
             panic!("the programs differ, seed {}", self.seed);
         }
         self.tally.count(case, expected, flags);
@@ -348,8 +343,8 @@ fn every_flag_decision_is_the_same() {
     let honours = [0, 1, 2, 127, 128, 255];
     for flags in 0..=255 {
         for (s, n) in honours.iter().flat_map(|&s| honours.map(|n| (s, n))) {
-            let expected = word(flag_decision(flags, s != 0, n != 0));
-            let got = product::name_option::flag_decision(flags, s, n);
+            let expected = number(flag_decision(flags, s != 0, n != 0));
+            let got = jespurla::flag_decision(flags, s, n);
             assert_eq!(got, expected, "flags {flags}, honours {s} {n}");
         }
     }

@@ -1,19 +1,14 @@
 //! Compares the product's server list call with the second program.
 
-mod common {
-    pub mod areas;
-    pub mod moments;
-    pub mod random;
-    pub mod tally;
-}
-mod product {
-    pub mod server_list;
-}
+mod common;
 
 use common::areas::{self, place_of};
+use common::lent::afresh;
 use common::moments::no_moment;
 use common::random::{fresh_seed, Random, FIXED_SEED};
 use common::tally::Tally;
+use common::twin::Twin;
+use jespurla::Moment;
 use second::server_list::{update, ServerList, AREA_MAX, PLACES};
 use second::{LATEST_MOMENT, NEVER};
 
@@ -285,17 +280,18 @@ impl Run {
     fn compare(&mut self, case: &Case) -> ServerList {
         self.lay_out(&case.area);
         let expected = update(&case.list, case.now, &case.area);
-        let lent = &mut self.memory[GUARD..][..case.area.len()];
-        let got = product::server_list::server_list((&case.list).into(), case.now, lent);
+        let lent = &self.memory[GUARD..][..case.area.len()];
+        let got = jespurla::server_list(&case.list.twin(), Moment(case.now), lent);
         // A refusal hands back the very list, unused places included.
         let list = *expected.as_ref().unwrap_or(&case.list);
         let refusal = expected.err().map_or(0, u32::from);
-        if got.refusal != refusal || got.list != (&list).into() || self.memory != self.untouched {
+        let same = (got.refusal, got.list) == (refusal, list.twin());
+        if !same || *afresh(&self.memory) != self.untouched {
             println!("second {refusal} {list:02x?}, product {got:02x?}, {case:02x?}");
             panic!("the programs differ, seed {}", self.seed);
         }
         self.count(case, &expected);
-        (&got.list).into()
+        got.list.twin()
     }
 
     fn count(&mut self, case: &Case, expected: &Result<ServerList, u8>) {

@@ -1,24 +1,15 @@
 //! Compares the product's zone requests with the second program, and with
 //! what a real BIND answered.
 
-mod common {
-    pub mod bind;
-    pub mod faults;
-    pub mod names;
-    pub mod random;
-    pub mod requests;
-    pub mod tally;
-    pub mod zones;
-}
-mod product {
-    pub mod zone;
-}
+mod common;
 
 use common::bind;
 use common::faults::{first, has_another, number};
+use common::product;
 use common::random::{fresh_seed, Random, FIXED_SEED};
 use common::requests::{self, Kind, Reply, Request};
 use common::tally::Tally;
+use common::twin::Twin;
 use common::zones::{no_full_name, Stock};
 use second::zone::{as_set, check, Entry, Zone, FREE, HELD, PLACES, STATIC};
 
@@ -106,20 +97,20 @@ impl Run {
         let request = &case.request;
         let mut next = zone.clone();
         let expected = requests::send(&mut next, request);
-        let given = product::zone::Zone::from(zone);
-        let got = product::zone::send(&given, request);
-        let left = Zone::from(&got.zone);
+        let given = zone.twin();
+        let got = product::send(&given, request);
+        let left = got.zone.twin();
         let same = match expected {
             Err(refusal) => {
                 (got.refusal, got.answer) == (u32::from(refusal), 0) && got.zone == given
             }
             Ok(reply) => {
-                (got.refusal, product::zone::reply(request.kind, got.answer)) == (0, Some(reply))
+                (got.refusal, product::reply(request.kind, got.answer)) == (0, Some(reply))
                     && check(&left) == Ok(())
                     && same_zone(&left, &next)
             }
         };
-        let checked = product::zone::check(&given, request);
+        let checked = product::check(&given, request);
         if !same || checked != got.refusal {
             let (refusal, answer) = (got.refusal, got.answer);
             println!("second {expected:?}, product {refusal} {answer}, check {checked}");
@@ -327,10 +318,10 @@ fn requests_from_a_fresh_seed_are_the_same() {
 #[test]
 fn the_product_answers_as_bind_did() {
     let agreed = bind::replay(|zone, request| {
-        let got = product::zone::send(&(&*zone).into(), request);
-        *zone = (&got.zone).into();
+        let got = product::send(&zone.twin(), request);
+        *zone = got.zone.twin();
         match got.refusal {
-            0 => Ok(product::zone::reply(request.kind, got.answer).expect("a listed answer")),
+            0 => Ok(product::reply(request.kind, got.answer).expect("a listed answer")),
             refusal => Err(refusal as u8),
         }
     });
