@@ -62,13 +62,17 @@ jespurla_dhcid some_dhcid(void)
     memset(dhcid.octets, 'X' + (int)random_below(2), sizeof dhcid.octets);
     if (one_in(32))
         damage_octets(&dhcid, sizeof dhcid);
+    if (one_in(32))
+        random_fill(&dhcid, sizeof dhcid);
     return dhcid;
 }
 
-/* One of six addresses, which differ within their first four octets. */
+/* One of six addresses mostly, which differ within their first four octets. */
 jespurla_address some_address(void)
 {
     jespurla_address address = { { 10, 0, 0, (uint8_t)random_below(6) } };
+    if (one_in(32))
+        random_fill(&address, sizeof address);
     return address;
 }
 

@@ -1,5 +1,5 @@
-//! Whole jobs, from the new job call to their end, on zones of several sizes;
-//! both programs hand zone and job in and back by the C convention.
+//! New jobs, and whole jobs from the new job call to their end, on zones of
+//! several sizes; both programs hand zone and job in and back by the C convention.
 
 use std::hint::black_box;
 
@@ -71,7 +71,17 @@ fn case(rows: &mut Table, title: &str, start: &Zone, request: &Request) {
     rows.compare(title, ours, second);
 }
 
+/// The new job call alone.
+fn new_job(rows: &mut Table, title: &str, request: &Request) {
+    let ours = || product::new_job(black_box(request));
+    let second = || fresh(black_box(request));
+    assert_eq!(ours().job, second().expect("a sound job").twin());
+    rows.compare(title, ours, second);
+}
+
 pub fn run(rows: &mut Table) {
+    new_job(rows, "new add", &request(Kind::A, 0));
+    new_job(rows, "new remove", &request(Kind::RemoveFirst, 0));
     for count in [1, 4, 16, 64] {
         let title = format!("add job, name to come, zone of {count}");
         let add = request(Kind::A, count - 1);
