@@ -1,35 +1,21 @@
 //! Compares the product's jobs with the second program, looks for the serial
 //! order of demand 3, and steps what was sent to a real BIND.
 
-// Other tests use the rest of these.
-#[allow(dead_code)]
-mod common {
-    pub mod bind;
-    pub mod faults;
-    pub mod jobs;
-    pub mod names;
-    pub mod random;
-    pub mod requests;
-    pub mod tally;
-    pub mod zones;
-}
-#[allow(dead_code)]
-mod product {
-    pub mod job;
-    pub mod zone;
-}
+mod common;
 
 use std::sync::mpsc::sync_channel;
 use std::thread;
 
-use common::bind::{self, Agreed, Line};
-use common::faults::{first, has_another, number};
+use common::bind;
+use common::faults::{self, first, has_another, number};
 use common::jobs::{self, called, Pool, Start};
-use common::random::{fresh_seed, Random, FIXED_SEED};
+use common::product;
+use common::random::{from_both_seeds, Random, FIXED_SEED};
 use common::requests::{Kind, Request};
 use common::tally::Tally;
-use common::zones::no_full_name;
-use product::job::Stepped;
+use common::twin::Twin;
+use common::zones::{self, no_full_name};
+use jespurla::Stepped;
 use second::job::{self, Job};
 use second::zone::{as_set, check, Entry, Zone, FREE};
 
@@ -56,20 +42,11 @@ const KINDS: &[&str] = &[
     "18: family of a new remove",
     "11: name of a new remove",
     "18 ahead of 11, new job",
-    "17: kind",
-    "17: name not full",
-    "17: fifth address of family 4",
-    "17: fifth address of family 6",
-    "17: address twice, family 4",
-    "17: address twice, family 6",
-    "17: name twice",
     "18: stage",
     "18: count",
     "18: family",
     "18: policy",
     "11: name",
-    "17 ahead of another",
-    "18 ahead of 11",
     "refused: before A",
     "refused: before B",
     "refused: before first remove",
@@ -151,23 +128,23 @@ struct Member {
 #[derive(Clone)]
 struct Both {
     second: Zone,
-    product: product::zone::Zone,
+    product: jespurla::Zone,
 }
 
 impl Both {
     fn new(zone: &Zone) -> Both {
         Both {
             second: zone.clone(),
-            product: zone.into(),
+            product: zone.twin(),
         }
     }
 
     /// Whether a zone of the product's is of good form and the second
     /// program's. If so, its places are taken over.
-    fn take(&mut self, left: &product::zone::Zone) -> bool {
+    fn take(&mut self, left: &jespurla::Zone) -> bool {
         let mut places = left.entries.iter().zip(&self.second.entries);
         if !places.all(|(left, right)| same_place(left, right)) {
-            let ours = Zone::from(left);
+            let ours = left.twin();
             if check(&ours) != Ok(()) || as_set(&ours) != as_set(&self.second) {
                 return false;
             }
@@ -178,18 +155,9 @@ impl Both {
     }
 }
 
-/// Whether two places are free, or have the same name with the same owner
-/// and addresses in the same order.
-fn same_place(left: &product::zone::Entry, right: &Entry) -> bool {
-    if left.kind != right.kind || left.kind == FREE {
-        return left.kind == right.kind;
-    }
-    let left = Entry::from(left);
-    left.name == right.name
-        && left.dhcid == right.dhcid
-        && (left.v4.count, left.v6.count) == (right.v4.count, right.v6.count)
-        && left.v4.as_slice() == right.v4.as_slice()
-        && left.v6.as_slice() == right.v6.as_slice()
+/// Whether two places are the same; free ones are not converted.
+fn same_place(left: &jespurla::Entry, right: &Entry) -> bool {
+    left.kind == right.kind && (left.kind == FREE || zones::same_place(&left.twin(), right))
 }
 
 /// A list of steps under way.
@@ -212,22 +180,22 @@ impl List {
 }
 
 /// How the product's step is called.
-type Call = Box<dyn Fn(&product::zone::Zone, &product::job::Job) -> Box<Stepped>>;
+type Call = Box<dyn Fn(&jespurla::Zone, &jespurla::Job) -> Box<Stepped>>;
 
 /// The step on this thread.
 fn here() -> Call {
-    Box::new(|zone, job| Box::new(product::job::step(zone, job)))
+    Box::new(|zone, job| Box::new(jespurla::job_step(zone, job)))
 }
 
 /// The step on a thread with a small stack.
 fn on_a_small_stack() -> Call {
-    let (send, given) = sync_channel::<Box<(product::zone::Zone, product::job::Job)>>(1);
+    let (send, given) = sync_channel::<Box<(jespurla::Zone, jespurla::Job)>>(1);
     let (hand_back, stepped) = sync_channel(1);
     let thread = thread::Builder::new().stack_size(SMALL_STACK);
     let steps = move || {
         for handed in given {
             let (zone, job) = &*handed;
-            let stepped = Box::new(product::job::step(zone, job));
+            let stepped = Box::new(jespurla::job_step(zone, job));
             hand_back.send(stepped).expect("the other side waits");
         }
     };
@@ -240,7 +208,6 @@ fn on_a_small_stack() -> Call {
 
 /// A run from one seed: what it drew and what it counted.
 struct Run {
-    seed: u64,
     random: Random,
     tally: Tally,
     call: Call,
@@ -248,11 +215,9 @@ struct Run {
 
 impl Run {
     fn new(seed: u64, call: Call) -> Run {
-        println!("seed {seed} (JESPURLA_SEED={seed} repeats it as the fresh one)");
         Run {
-            seed,
             random: Random::new(seed),
-            tally: Tally::new(KINDS),
+            tally: Tally::new(&[zones::FAULTS, faults::AHEAD, KINDS]),
             call,
         }
     }
@@ -260,15 +225,15 @@ impl Run {
     /// Makes a job with both programs. A refused one is blank.
     fn make(&mut self, request: &Request, faults: &[&str]) -> Option<Job> {
         let expected = jobs::fresh(request);
-        let got = product::job::new(request);
+        let got = product::new_job(request);
         let wanted = match &expected {
-            Ok(job) => (0, job.into()),
-            Err(refusal) => (u32::from(*refusal), product::job::Job::BLANK),
+            Ok(job) => (0, job.twin()),
+            Err(refusal) => (u32::from(*refusal), jespurla::Job::BLANK),
         };
         if (got.refusal, got.job) != wanted {
             println!("second {expected:02x?}, product {got:02x?}");
             println!("{request:02x?}");
-            panic!("the programs differ, seed {}", self.seed);
+            panic!("the programs differ, seed {}", self.random.seed);
         }
         let fault = first(&ORDER, faults);
         assert_eq!(fault.map(number), expected.err(), "{faults:?}");
@@ -315,9 +280,9 @@ impl Run {
         let mut next = *job;
         let refusal = job::step_in_place(&mut zone.second, &mut next).err();
         let refusal = refusal.unwrap_or(0);
-        let got = (self.call)(&zone.product, &job.into());
+        let got = (self.call)(&zone.product, &job.twin());
         let same = got.refusal == u32::from(refusal)
-            && got.job == (&next).into()
+            && got.job == next.twin()
             && match refusal {
                 0 => zone.take(&got.zone),
                 _ => got.zone == zone.product,
@@ -327,8 +292,8 @@ impl Run {
             println!("second {refusal} {next:02x?}");
             println!("which left {:02x?}", as_set(&zone.second));
             println!("product {} {:02x?}", got.refusal, got.job);
-            println!("which left {:02x?}", as_set(&(&got.zone).into()));
-            panic!("the programs differ, seed {}", self.seed);
+            println!("which left {:02x?}", as_set(&got.zone.twin()));
+            panic!("the programs differ, seed {}", self.random.seed);
         }
         self.count(job, &next, refusal, faults);
         next
@@ -435,7 +400,7 @@ impl Run {
 
     /// Makes the start's jobs.
     fn begin(&mut self, start: &Start) -> List {
-        assert_eq!(check(&start.zone), Ok(()), "seed {}", self.seed);
+        assert_eq!(check(&start.zone), Ok(()), "seed {}", self.random.seed);
         let mut members = Vec::new();
         for request in &start.jobs {
             let fresh = self.make(request, &[]).expect("a sound job");
@@ -495,11 +460,11 @@ impl Run {
         if remaining > ORDER_MAX {
             return;
         }
-        let end = Zone::from(&list.zone.product);
+        let end = list.zone.product.twin();
         let Some(order) = job::serial_order(&list.start, &fresh, &end, &answers) else {
             println!("{fresh:02x?} ended {answers:?}");
             println!("{:02x?} to {:02x?}", as_set(&list.start), as_set(&end));
-            panic!("no serial order, seed {}", self.seed);
+            panic!("no serial order, seed {}", self.random.seed);
         };
         assert_eq!(order.len(), remaining);
         self.count_order(remaining, left_out);
@@ -520,7 +485,7 @@ impl Run {
         while self.tally.cases < LISTS {
             self.list();
         }
-        let title = format!("seed {}, lists of job steps", self.seed);
+        let title = format!("seed {}, lists of job steps", self.random.seed);
         self.tally.report(&title, LISTS, EACH);
     }
 }
@@ -543,13 +508,7 @@ fn end(job: &Job) -> String {
 }
 
 fn count_refusal(tally: &mut Tally, job: &Job, faults: &[&str], fault: &str) {
-    tally.count(fault);
-    let several = has_another(faults, fault);
-    match number(fault) {
-        17 if several => tally.count("17 ahead of another"),
-        18 if several => tally.count("18 ahead of 11"),
-        _ => {}
-    }
+    faults::count(tally, faults, fault);
     if job.has_ended() {
         tally.count("refused: ended");
     } else if jobs::STAGES.contains(&job.stage) {
@@ -565,13 +524,8 @@ fn count_step(tally: &mut Tally, job: &Job, next: &Job) {
 }
 
 #[test]
-fn lists_from_the_fixed_seed_are_the_same() {
-    Run::new(FIXED_SEED, here()).whole();
-}
-
-#[test]
-fn lists_from_a_fresh_seed_are_the_same() {
-    Run::new(fresh_seed(), here()).whole();
+fn lists_are_the_same() {
+    from_both_seeds(|seed| Run::new(seed, here()).whole());
 }
 
 #[test]
@@ -582,53 +536,21 @@ fn steps_do_with_a_small_stack() {
     }
 }
 
-/// The product's fresh job.
-fn made(request: &Request) -> Job {
-    let got = product::job::new(request);
-    assert_eq!(got.refusal, 0);
-    (&got.job).into()
+/// One step of the product's.
+fn step(zone: &mut Zone, job: &mut Job) -> Result<(), u8> {
+    let got = jespurla::job_step(&zone.twin(), &job.twin());
+    (*zone, *job) = (got.zone.twin(), got.job.twin());
+    match got.refusal {
+        0 => Ok(()),
+        refusal => Err(refusal as u8),
+    }
 }
 
-/// One unrefused step of the product's.
-fn stepped(line: &str, zone: &mut Zone, job: &mut Job) {
-    let got = product::job::step(&(&*zone).into(), &(&*job).into());
-    assert_eq!(got.refusal, 0, "{line}");
-    *zone = (&got.zone).into();
-    *job = (&got.job).into();
-}
-
-/// Stepped as jobs, the lists send the very requests that stand there, and
-/// every job has ended with its list.
 #[test]
 fn the_products_jobs_send_what_bind_was_sent() {
-    let mut agreed = Agreed::default();
-    let mut zone = Zone::EMPTY;
-    let mut list: Vec<(Job, u8)> = Vec::new();
-    for (line, read) in bind::lines() {
-        match read {
-            Line::List => {
-                assert!(list.iter().all(|(job, _)| job.has_ended()), "before {line}");
-                agreed.lists += 1;
-                zone = Zone::EMPTY;
-                list.clear();
-            }
-            Line::Job(request) => list.push((made(&request), 0)),
-            Line::Ask(number, kind, reply) => {
-                let (job, sent) = &mut list[number];
-                assert_eq!(job.stage, jobs::before(kind), "{line}");
-                stepped(line, &mut zone, job);
-                *sent += 1;
-                assert_eq!(job.stage, jobs::after(kind, reply), "{line}");
-                let count = if job.is_add() { *sent } else { 0 };
-                assert_eq!(job.count, count, "{line}");
-                agreed.asks += 1;
-            }
-            Line::End(name, held) => {
-                bind::check_end(line, &zone, &name, held);
-                agreed.ends += 1;
-            }
-        }
-    }
-    assert!(list.iter().all(|(job, _)| job.has_ended()));
-    assert_eq!(agreed, bind::ALL);
+    let make = |request: &Request| match product::new_job(request).ok() {
+        Ok(job) => Ok(job.twin()),
+        Err(refusal) => Err(refusal.0 as u8),
+    };
+    assert_eq!(bind::replay_jobs(make, step), bind::ALL);
 }

@@ -1,26 +1,19 @@
 //! Compares the product's lease query call with the second program.
 
-mod common {
-    pub mod faults;
-    pub mod leases;
-    pub mod moments;
-    pub mod queries;
-    pub mod random;
-    pub mod tally;
-}
-mod product {
-    pub mod lease;
-}
+mod common;
 
 use std::thread;
 
 use common::faults::{first, has_another, number};
 use common::leases::{self, Client};
+use common::lent::{afresh, Memory};
 use common::moments::no_clock;
+use common::product::lease_answer;
 use common::queries::Query;
-use common::random::{fresh_seed, Random, FIXED_SEED};
+use common::random::{from_both_seeds, Random};
 use common::tally::Tally;
-use product::lease::LeaseAnswer;
+use common::twin::Twin;
+use jespurla::{LeaseAnswer, Moment};
 use second::lease_query::{answer, Lease, REPLY_MIN};
 use second::{LATEST_MOMENT, NEVER};
 
@@ -28,8 +21,6 @@ use second::{LATEST_MOMENT, NEVER};
 const QUERIES: usize = 400_000;
 /// Cases of each kind, at the least.
 const EACH: usize = 1_000;
-/// Octets around every lent part that nobody may touch.
-const GUARD: usize = 16;
 /// The stack of a thread on which the calls must run.
 const SMALL_STACK: usize = 64 * 1024;
 /// Refusals in the order in which they are given.
@@ -128,14 +119,14 @@ struct Case {
 /// aren't lent.
 struct Tables {
     second: Vec<Lease>,
-    product: Vec<product::lease::Lease>,
-    untouched: Vec<product::lease::Lease>,
+    product: Vec<jespurla::Lease>,
+    untouched: Vec<jespurla::Lease>,
 }
 
 impl Tables {
     fn new(random: &mut Random, second: Vec<Lease>) -> Tables {
         let (front, back) = (leases::record(random), leases::record(random));
-        let product = product::lease::table(&[&[front], &second[..], &[back]].concat());
+        let product = [&[front], &second[..], &[back]].concat().twin();
         Tables {
             untouched: product.clone(),
             second,
@@ -143,58 +134,40 @@ impl Tables {
         }
     }
 
-    fn lent(&mut self) -> &mut [product::lease::Lease] {
-        &mut self.product[1..][..self.second.len()]
+    fn lent(&self) -> &[jespurla::Lease] {
+        &self.product[1..][..self.second.len()]
     }
 }
 
 /// A run from one seed: what it drew, what it counted and the memory it
-/// lends, once for each program.
+/// lends.
 struct Run {
-    seed: u64,
     random: Random,
     tally: Tally,
-    ours: Vec<u8>,
-    theirs: Vec<u8>,
-}
-
-/// The two lent parts of a memory, each between guards.
-fn lend<'a>(memory: &'a mut [u8], case: &Case) -> [&'a mut [u8]; 2] {
-    let (query, rest) = memory[GUARD..].split_at_mut(case.packet.len());
-    [query, &mut rest[GUARD..][..case.reply_len]]
+    memory: Memory<2>,
 }
 
 impl Run {
     fn new(seed: u64) -> Run {
-        println!("seed {seed} (JESPURLA_SEED={seed} repeats it as the fresh one)");
         Run {
-            seed,
             random: Random::new(seed),
-            tally: Tally::new(KINDS),
-            ours: Vec::new(),
-            theirs: Vec::new(),
+            tally: Tally::new(&[KINDS]),
+            memory: Memory::new(),
         }
-    }
-
-    /// Lays out both memories alike: random octets, then the query.
-    fn lay_out(&mut self, case: &Case) {
-        let lent = case.packet.len() + case.reply_len;
-        self.ours.resize(lent + 3 * GUARD, 0);
-        self.random.fill(&mut self.ours);
-        let [query, _] = lend(&mut self.ours, case);
-        query.copy_from_slice(&case.packet);
-        self.theirs.clone_from(&self.ours);
     }
 
     /// Runs both programs on one case and compares the whole memories.
     fn compare(&mut self, tables: &mut Tables, case: &Case) {
-        self.lay_out(case);
-        let [query, reply] = lend(&mut self.ours, case);
+        let lengths = [case.packet.len(), case.reply_len];
+        self.memory
+            .lay_out(&mut self.random, lengths, &[&case.packet]);
+        let [query, reply] = self.memory.second();
         let expected = answer(case.now, &tables.second, case.server, query, reply);
-        let [query, reply] = lend(&mut self.theirs, case);
+        let [query, reply] = self.memory.product();
         let lent = tables.lent();
-        let got = product::lease::lease_query(case.now, lent, case.server, query, reply);
-        if got != LeaseAnswer::from(expected) || self.ours != self.theirs {
+        let server = u32::from_be_bytes(case.server);
+        let got = jespurla::lease_query(Moment(case.now), lent, server, query, reply);
+        if got != lease_answer(expected) || !self.memory.is_alike() {
             self.differ(tables, case, expected, got);
         }
         self.count(&tables.second, case, expected);
@@ -210,7 +183,7 @@ impl Run {
     ) {
         println!("second {expected:?}, product {got:?}, {case:02x?}");
         println!("table {:02x?}", tables.second);
-        panic!("the programs differ, seed {}", self.seed);
+        panic!("the programs differ, seed {}", self.random.seed);
     }
 
     fn count(&mut self, table: &[Lease], case: &Case, expected: Result<(u8, usize), u8>) {
@@ -227,7 +200,7 @@ impl Run {
             }
         }
         if let Ok((kind, length)) = expected {
-            let [query, reply] = lend(&mut self.ours, case);
+            let [query, reply] = self.memory.second();
             count_answer(&mut self.tally, case.now, table, query, kind);
             count_reply(&mut self.tally, case.now, table, &reply[..length]);
         }
@@ -313,7 +286,10 @@ impl Run {
         } else {
             cases.iter().for_each(|case| self.compare(tables, case));
         }
-        assert!(tables.product == tables.untouched, "a table was written");
+        assert!(
+            *afresh(&tables.product) == tables.untouched,
+            "a table was written"
+        );
     }
 
     /// Every octet of a sound query changed, one at a time, and every cut.
@@ -349,7 +325,7 @@ impl Run {
         while self.tally.cases < QUERIES {
             self.group();
         }
-        let title = format!("seed {}, lease queries", self.seed);
+        let title = format!("seed {}, lease queries", self.random.seed);
         self.tally.report(&title, QUERIES, EACH);
     }
 }
@@ -499,11 +475,6 @@ fn count_spans(tally: &mut Tally, now: u64, lease: &Lease) {
 }
 
 #[test]
-fn replies_from_the_fixed_seed_are_the_same() {
-    Run::new(FIXED_SEED).whole();
-}
-
-#[test]
-fn replies_from_a_fresh_seed_are_the_same() {
-    Run::new(fresh_seed()).whole();
+fn replies_are_the_same() {
+    from_both_seeds(|seed| Run::new(seed).whole());
 }

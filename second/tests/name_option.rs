@@ -1,28 +1,22 @@
 //! Compares the product's name option calls with the second program.
 
-mod common {
-    pub mod names;
-    pub mod random;
-}
-mod product {
-    pub mod name_option;
-}
+mod common;
 
+use common::lent::Memory;
 use common::names;
-use common::random::{fresh_seed, Random, FIXED_SEED};
-use product::name_option::word;
+use common::product::number;
+use common::random::{from_both_seeds, Random, FIXED_SEED};
+use common::tally::Tally;
 use second::name_option::{answer, flag_decision, shape, Shape};
 
 /// Options compared by one run, at the least.
 const CASES: usize = 1_000_000;
 /// Cases of each refusal and each kind of answer, at the least.
 const EACH: usize = 1_000;
-/// Octets around every lent part that nobody may touch.
-const GUARD: usize = 16;
 /// Reply buffers at and around the limit.
 const BUFFERS: [usize; 5] = [0, 255, 256, 257, 300];
 
-const KINDS: [&str; 12] = [
+const KINDS: &[&str] = &[
     "refusal 10",
     "refusal 11, suffix",
     "refusal 11, name",
@@ -37,45 +31,6 @@ const KINDS: [&str; 12] = [
     "flags 4",
 ];
 
-/// How often each kind came up.
-#[derive(Default)]
-struct Tally {
-    counts: [usize; KINDS.len()],
-    cases: usize,
-}
-
-impl Tally {
-    fn count(&mut self, case: &Case, expected: Result<usize, u8>, flags: u8) {
-        self.cases += 1;
-        let kind = match expected {
-            Err(10) => 0,
-            Err(11) if shape(&case.suffix) != Shape::Full => 1,
-            Err(11) => 2,
-            Err(refusal) => usize::from(refusal) - 9,
-            Ok(_) => {
-                self.counts[[8, 9, 10, 0, 11][usize::from(flags)]] += 1;
-                if shape(&case.value[1..]) == Shape::Full {
-                    6
-                } else {
-                    7
-                }
-            }
-        };
-        self.counts[kind] += 1;
-    }
-
-    /// Prints the table and fails where a kind was too rare.
-    fn report(&self, seed: u64) {
-        println!("seed {seed}: {} name options", self.cases);
-        for (kind, count) in KINDS.iter().zip(self.counts) {
-            println!("  {kind:<20}{count:>9}");
-        }
-        assert!(self.cases >= CASES, "too few cases");
-        let rare = self.counts.iter().position(|&count| count < EACH);
-        assert_eq!(rare.map(|kind| KINDS[kind]), None, "a kind is too rare");
-    }
-}
-
 /// One call's arguments.
 #[derive(Clone, Debug)]
 struct Case {
@@ -87,60 +42,57 @@ struct Case {
 }
 
 /// A run from one seed: what it drew, what it counted and the memory it
-/// lends, once for each program.
+/// lends.
 struct Run {
-    seed: u64,
     random: Random,
     tally: Tally,
-    ours: Vec<u8>,
-    theirs: Vec<u8>,
-}
-
-/// The three lent parts of a memory, each between guards.
-fn lend<'a>(memory: &'a mut [u8], case: &Case) -> [&'a mut [u8]; 3] {
-    let (value, rest) = memory[GUARD..].split_at_mut(case.value.len());
-    let (suffix, rest) = rest[GUARD..].split_at_mut(case.suffix.len());
-    [value, suffix, &mut rest[GUARD..][..case.reply_len]]
+    memory: Memory<3>,
 }
 
 impl Run {
     fn new(seed: u64) -> Run {
-        println!("seed {seed} (JESPURLA_SEED={seed} repeats it as the fresh one)");
         Run {
-            seed,
             random: Random::new(seed),
-            tally: Tally::default(),
-            ours: Vec::new(),
-            theirs: Vec::new(),
+            tally: Tally::new(&[KINDS]),
+            memory: Memory::new(),
         }
-    }
-
-    /// Lays out both memories alike: random octets, then value and suffix.
-    fn lay_out(&mut self, case: &Case) {
-        let lent = case.value.len() + case.suffix.len() + case.reply_len;
-        self.ours.resize(lent + 4 * GUARD, 0);
-        self.random.fill(&mut self.ours);
-        let [value, suffix, _] = lend(&mut self.ours, case);
-        value.copy_from_slice(&case.value);
-        suffix.copy_from_slice(&case.suffix);
-        self.theirs.clone_from(&self.ours);
     }
 
     /// Runs both programs on one case and compares the whole memories.
     fn compare(&mut self, case: &Case) {
-        self.lay_out(case);
+        let lengths = [case.value.len(), case.suffix.len(), case.reply_len];
+        let given: [&[u8]; 2] = [&case.value, &case.suffix];
+        self.memory.lay_out(&mut self.random, lengths, &given);
         let (s, n) = (case.honour_s, case.honour_n);
-        let [value, suffix, reply] = lend(&mut self.ours, case);
+        let [value, suffix, reply] = self.memory.second();
         let expected = answer(value, suffix, s != 0, n != 0, reply);
         let flags = if expected.is_ok() { reply[0] } else { 0 };
-        let [value, suffix, reply] = lend(&mut self.theirs, case);
-        let got = product::name_option::name_option_answer(value, suffix, s, n, reply);
-        let same = got == word(expected.map(|octets| octets as u64));
-        if !same || self.ours != self.theirs {
-            println!("second {expected:?}, product {got:#x}, {case:02x?}");
-            panic!("the programs differ, seed {}", self.seed);
+        let [value, suffix, reply] = self.memory.product();
+        let got = jespurla::name_option_answer(value, suffix, s, n, reply);
+        let same = got == number(expected.map(|octets| octets as u64));
+        if !same || !self.memory.is_alike() {
+            println!("second {expected:?}, product {got:x?}, {case:02x?}");
+            panic!("the programs differ, seed {}", self.random.seed);
         }
-        self.tally.count(case, expected, flags);
+        self.count(case, expected, flags);
+    }
+
+    fn count(&mut self, case: &Case, expected: Result<usize, u8>, flags: u8) {
+        self.tally.cases += 1;
+        match expected {
+            Err(11) if shape(&case.suffix) != Shape::Full => self.tally.count("refusal 11, suffix"),
+            Err(11) => self.tally.count("refusal 11, name"),
+            Err(refusal) => self.tally.count(&format!("refusal {refusal}")),
+            Ok(_) => {
+                self.tally.count(&format!("flags {flags}"));
+                let whole = shape(&case.value[1..]) == Shape::Full;
+                self.tally.count(if whole {
+                    "whole name"
+                } else {
+                    "completed name"
+                });
+            }
+        }
     }
 
     /// 0, or any of the octets that mean yes.
@@ -339,7 +291,8 @@ impl Run {
             let case = self.mixed_case();
             self.compare(&case);
         }
-        self.tally.report(self.seed);
+        let title = format!("seed {}, name options", self.random.seed);
+        self.tally.report(&title, CASES, EACH);
     }
 }
 
@@ -348,21 +301,16 @@ fn every_flag_decision_is_the_same() {
     let honours = [0, 1, 2, 127, 128, 255];
     for flags in 0..=255 {
         for (s, n) in honours.iter().flat_map(|&s| honours.map(|n| (s, n))) {
-            let expected = word(flag_decision(flags, s != 0, n != 0));
-            let got = product::name_option::flag_decision(flags, s, n);
+            let expected = number(flag_decision(flags, s != 0, n != 0));
+            let got = jespurla::flag_decision(flags, s, n);
             assert_eq!(got, expected, "flags {flags}, honours {s} {n}");
         }
     }
 }
 
 #[test]
-fn answers_from_the_fixed_seed_are_the_same() {
-    Run::new(FIXED_SEED).whole();
-}
-
-#[test]
-fn answers_from_a_fresh_seed_are_the_same() {
-    Run::new(fresh_seed()).whole();
+fn answers_are_the_same() {
+    from_both_seeds(|seed| Run::new(seed).whole());
 }
 
 /// Fields far over any limit end in a refusal too, however many labels they

@@ -1,19 +1,14 @@
 //! Compares the product's server list call with the second program.
 
-mod common {
-    pub mod areas;
-    pub mod moments;
-    pub mod random;
-    pub mod tally;
-}
-mod product {
-    pub mod server_list;
-}
+mod common;
 
 use common::areas::{self, place_of};
+use common::lent::Memory;
 use common::moments::no_moment;
-use common::random::{fresh_seed, Random, FIXED_SEED};
+use common::random::{from_both_seeds, Random};
 use common::tally::Tally;
+use common::twin::Twin;
+use jespurla::Moment;
 use second::server_list::{update, ServerList, AREA_MAX, PLACES};
 use second::{LATEST_MOMENT, NEVER};
 
@@ -21,8 +16,6 @@ use second::{LATEST_MOMENT, NEVER};
 const CALLS: usize = 1_000_000;
 /// Cases of each kind, at the least.
 const EACH: usize = 1_000;
-/// Octets around the lent area that nobody may touch.
-const GUARD: usize = 16;
 
 const KINDS: &[&str] = &[
     "31: over eight entries",
@@ -250,52 +243,38 @@ fn count_eviction(
 /// A run from one seed: what it drew, what it counted and the memory it
 /// lends the area in.
 struct Run {
-    seed: u64,
     random: Random,
     tally: Tally,
-    memory: Vec<u8>,
-    untouched: Vec<u8>,
+    memory: Memory<1>,
 }
 
 impl Run {
     fn new(seed: u64) -> Run {
-        println!("seed {seed} (JESPURLA_SEED={seed} repeats it as the fresh one)");
         Run {
-            seed,
             random: Random::new(seed),
-            tally: Tally::new(KINDS),
-            memory: Vec::new(),
-            untouched: Vec::new(),
+            tally: Tally::new(&[KINDS]),
+            memory: Memory::new(),
         }
-    }
-
-    /// Lays the area out between guards of random octets.
-    fn lay_out(&mut self, area: &[u8]) {
-        self.memory.resize(area.len() + 2 * GUARD, 0);
-        let (front, rest) = self.memory.split_at_mut(GUARD);
-        let (lent, back) = rest.split_at_mut(area.len());
-        self.random.fill(front);
-        lent.copy_from_slice(area);
-        self.random.fill(back);
-        self.untouched.clone_from(&self.memory);
     }
 
     /// Runs both programs on one case and compares refusal, list and lent
     /// memory. The list for the next call is the product's.
     fn compare(&mut self, case: &Case) -> ServerList {
-        self.lay_out(&case.area);
+        self.memory
+            .lay_out(&mut self.random, [case.area.len()], &[&case.area]);
         let expected = update(&case.list, case.now, &case.area);
-        let lent = &mut self.memory[GUARD..][..case.area.len()];
-        let got = product::server_list::server_list((&case.list).into(), case.now, lent);
+        let [lent] = self.memory.product();
+        let got = jespurla::server_list(&case.list.twin(), Moment(case.now), lent);
         // A refusal hands back the very list, unused places included.
         let list = *expected.as_ref().unwrap_or(&case.list);
         let refusal = expected.err().map_or(0, u32::from);
-        if got.refusal != refusal || got.list != (&list).into() || self.memory != self.untouched {
+        let same = (got.refusal, got.list) == (refusal, list.twin());
+        if !same || !self.memory.is_alike() {
             println!("second {refusal} {list:02x?}, product {got:02x?}, {case:02x?}");
-            panic!("the programs differ, seed {}", self.seed);
+            panic!("the programs differ, seed {}", self.random.seed);
         }
         self.count(case, &expected);
-        (&got.list).into()
+        got.list.twin()
     }
 
     fn count(&mut self, case: &Case, expected: &Result<ServerList, u8>) {
@@ -441,17 +420,12 @@ impl Run {
         while self.tally.cases < CALLS {
             self.chain();
         }
-        let title = format!("seed {}, server lists", self.seed);
+        let title = format!("seed {}, server lists", self.random.seed);
         self.tally.report(&title, CALLS, EACH);
     }
 }
 
 #[test]
-fn lists_from_the_fixed_seed_are_the_same() {
-    Run::new(FIXED_SEED).whole();
-}
-
-#[test]
-fn lists_from_a_fresh_seed_are_the_same() {
-    Run::new(fresh_seed()).whole();
+fn lists_are_the_same() {
+    from_both_seeds(|seed| Run::new(seed).whole());
 }

@@ -1,25 +1,16 @@
 //! Compares the product's zone requests with the second program, and with
 //! what a real BIND answered.
 
-mod common {
-    pub mod bind;
-    pub mod faults;
-    pub mod names;
-    pub mod random;
-    pub mod requests;
-    pub mod tally;
-    pub mod zones;
-}
-mod product {
-    pub mod zone;
-}
+mod common;
 
 use common::bind;
-use common::faults::{first, has_another, number};
-use common::random::{fresh_seed, Random, FIXED_SEED};
+use common::faults::{self, first, number};
+use common::product;
+use common::random::{from_both_seeds, Random};
 use common::requests::{self, Kind, Reply, Request};
 use common::tally::Tally;
-use common::zones::{no_full_name, Stock};
+use common::twin::Twin;
+use common::zones::{self, no_full_name, same_zone, Stock};
 use second::zone::{as_set, check, Entry, Zone, FREE, HELD, PLACES, STATIC};
 
 /// Requests compared by one run, at the least.
@@ -31,18 +22,9 @@ const EACH: usize = 1_000;
 const ORDER: [u8; 3] = [17, 18, 11];
 
 const KINDS: &[&str] = &[
-    "17: kind",
-    "17: name not full",
-    "17: fifth address of family 4",
-    "17: fifth address of family 6",
-    "17: address twice, family 4",
-    "17: address twice, family 6",
-    "17: name twice",
     "18: family",
     "18: policy",
     "11: name",
-    "17 ahead of another",
-    "18 ahead of 11",
     "A: added, family 4",
     "A: added, family 6",
     "A: the 64th name",
@@ -84,18 +66,15 @@ struct Case {
 
 /// A run from one seed: what it drew and what it counted.
 struct Run {
-    seed: u64,
     random: Random,
     tally: Tally,
 }
 
 impl Run {
     fn new(seed: u64) -> Run {
-        println!("seed {seed} (JESPURLA_SEED={seed} repeats it as the fresh one)");
         Run {
-            seed,
             random: Random::new(seed),
-            tally: Tally::new(KINDS),
+            tally: Tally::new(&[zones::FAULTS, faults::AHEAD, KINDS]),
         }
     }
 
@@ -106,25 +85,25 @@ impl Run {
         let request = &case.request;
         let mut next = zone.clone();
         let expected = requests::send(&mut next, request);
-        let given = product::zone::Zone::from(zone);
-        let got = product::zone::send(&given, request);
-        let left = Zone::from(&got.zone);
+        let given = zone.twin();
+        let got = product::send(&given, request);
+        let left = got.zone.twin();
         let same = match expected {
             Err(refusal) => {
                 (got.refusal, got.answer) == (u32::from(refusal), 0) && got.zone == given
             }
             Ok(reply) => {
-                (got.refusal, product::zone::reply(request.kind, got.answer)) == (0, Some(reply))
+                (got.refusal, product::reply(request.kind, got.answer)) == (0, Some(reply))
                     && check(&left) == Ok(())
                     && same_zone(&left, &next)
             }
         };
-        let checked = product::zone::check(&given, request);
+        let checked = product::check(&given, request);
         if !same || checked != got.refusal {
             let (refusal, answer) = (got.refusal, got.answer);
             println!("second {expected:?}, product {refusal} {answer}, check {checked}");
             println!("{request:02x?} on {:02x?}", as_set(zone));
-            panic!("the programs differ, seed {}", self.seed);
+            panic!("the programs differ, seed {}", self.random.seed);
         }
         self.count(zone, case, expected);
         left
@@ -135,7 +114,7 @@ impl Run {
         let fault = first(&ORDER, &case.faults);
         assert_eq!(fault.map(number), expected.err(), "{:?}", case.faults);
         match (fault, expected) {
-            (Some(fault), _) => count_refusal(&mut self.tally, &case.faults, fault),
+            (Some(fault), _) => faults::count(&mut self.tally, &case.faults, fault),
             (None, Ok(reply)) => count_answer(&mut self.tally, zone, &case.request, reply),
             (None, Err(_)) => unreachable!("a refusal has a fault"),
         }
@@ -190,31 +169,8 @@ impl Run {
         while self.tally.cases < REQUESTS {
             self.chain();
         }
-        let title = format!("seed {}, zone requests", self.seed);
+        let title = format!("seed {}, zone requests", self.random.seed);
         self.tally.report(&title, REQUESTS, EACH);
-    }
-}
-
-/// Whether two zones are the same; where every place agrees they are.
-fn same_zone(left: &Zone, right: &Zone) -> bool {
-    let free = |entry: &Entry| entry.kind == FREE;
-    let alike = |left: &Entry, right: &Entry| {
-        let sets =
-            left.v4.as_slice() == right.v4.as_slice() && left.v6.as_slice() == right.v6.as_slice();
-        left.kind == right.kind && left.name == right.name && left.dhcid == right.dhcid && sets
-    };
-    let mut places = left.entries.iter().zip(&right.entries);
-    places.all(|(left, right)| free(left) && free(right) || alike(left, right))
-        || as_set(left) == as_set(right)
-}
-
-fn count_refusal(tally: &mut Tally, faults: &[&str], fault: &str) {
-    tally.count(fault);
-    let several = has_another(faults, fault);
-    match number(fault) {
-        17 if several => tally.count("17 ahead of another"),
-        18 if several => tally.count("18 ahead of 11"),
-        _ => {}
     }
 }
 
@@ -315,22 +271,17 @@ fn count_second(tally: &mut Tally, zone: &Zone, request: &Request) {
 }
 
 #[test]
-fn requests_from_the_fixed_seed_are_the_same() {
-    Run::new(FIXED_SEED).whole();
-}
-
-#[test]
-fn requests_from_a_fresh_seed_are_the_same() {
-    Run::new(fresh_seed()).whole();
+fn requests_are_the_same() {
+    from_both_seeds(|seed| Run::new(seed).whole());
 }
 
 #[test]
 fn the_product_answers_as_bind_did() {
     let agreed = bind::replay(|zone, request| {
-        let got = product::zone::send(&(&*zone).into(), request);
-        *zone = (&got.zone).into();
+        let got = product::send(&zone.twin(), request);
+        *zone = got.zone.twin();
         match got.refusal {
-            0 => Ok(product::zone::reply(request.kind, got.answer).expect("a listed answer")),
+            0 => Ok(product::reply(request.kind, got.answer).expect("a listed answer")),
             refusal => Err(refusal as u8),
         }
     });

@@ -1,54 +1,32 @@
-//! Whole jobs, from the new job call to their end, on a small and a full
-//! zone; both programs hand zone and job in and back by the C convention.
-
-// The tests use the rest of this.
-#[allow(dead_code)]
-#[path = "../../tests/product/job.rs"]
-mod product;
+//! New jobs, and whole jobs from the new job call to their end, on zones of
+//! several sizes; both programs hand zone and job in and back by the C convention.
 
 use std::hint::black_box;
 
 use second::job::{self, Job, DONE, GONE};
-use second::zone::{as_set, Entry, Name, Set, Zone, HELD};
+use second::zone::{as_set, Entry, Set, Zone};
 
-use crate::requests::{Kind, Request};
-use crate::timer::compare;
-use crate::zone::product as zone;
-
-const OWNER: [u8; 35] = [7; 35];
-const ADDRESS: [u8; 16] = [9; 16];
-
-fn name(number: usize) -> Name {
-    let octets = [
-        4,
-        b'h',
-        b'o',
-        b'a' + (number / 8) as u8,
-        b'0' + (number % 8) as u8,
-    ];
-    Name::new(&[&octets[..], b"\x05stage\x00"].concat()).expect("short")
-}
+use crate::common::jobs::fresh;
+use crate::common::product;
+use crate::common::requests::{Kind, Request};
+use crate::common::twin::Twin;
+use crate::timer::Table;
+use crate::zones::{self, short, ADDRESS, OWNER};
 
 /// A zone of `count` held names, one address each.
 fn zone_of(count: usize) -> Zone {
-    let mut zone = Zone::EMPTY;
-    for (number, entry) in zone.entries[..count].iter_mut().enumerate() {
-        *entry = Entry {
-            kind: HELD,
-            name: name(number),
-            dhcid: OWNER,
-            v4: Set::EMPTY,
-            v6: Set::only(ADDRESS),
-        };
-    }
-    zone
+    let entry = Entry {
+        v6: Set::only(ADDRESS),
+        ..Entry::FREE
+    };
+    zones::zone_of(count, short, entry)
 }
 
 /// A new job of the owner's.
 fn request(kind: Kind, number: usize) -> Request {
     Request {
         kind,
-        name: name(number),
+        name: short(number),
         dhcid: OWNER,
         family: 6,
         address: ADDRESS,
@@ -57,11 +35,11 @@ fn request(kind: Kind, number: usize) -> Request {
 }
 
 /// The product's whole job.
-fn ours(start: &zone::Zone, request: &Request) -> product::Stepped {
-    let job = product::new(request).job;
-    let mut last = product::step(start, &job);
+fn ours(start: &jespurla::Zone, request: &Request) -> jespurla::Stepped {
+    let job = product::new_job(request).job;
+    let mut last = jespurla::job_step(start, &job);
     while last.job.stage != DONE && last.job.stage != GONE {
-        last = product::step(&last.zone, &last.job);
+        last = jespurla::job_step(&last.zone, &last.job);
     }
     last
 }
@@ -75,38 +53,43 @@ extern "C" fn second_step(zone: Zone, job: Job) -> (u8, Zone, Job) {
 
 /// The second program's whole job.
 fn second(start: &Zone, request: &Request) -> (u8, Zone, Job) {
-    let (name, dhcid, address) = (&request.name, &request.dhcid, &request.address);
-    let (family, policy) = (request.family, request.policy);
-    let made = match request.kind {
-        Kind::A => job::new_add(name, dhcid, family, address, policy),
-        _ => job::new_remove(name, dhcid, family, address),
-    };
-    let mut last = second_step(start.clone(), made.expect("a sound job"));
+    let made = fresh(request).expect("a sound job");
+    let mut last = second_step(start.clone(), made);
     while last.2.stage != DONE && last.2.stage != GONE {
         last = second_step(last.1, last.2);
     }
     last
 }
 
-fn case(title: &str, start: &Zone, request: &Request) {
-    let given = zone::Zone::from(start);
+fn case(rows: &mut Table, title: &str, start: &Zone, request: &Request) {
+    let given = start.twin();
     let ours = || ours(black_box(&given), black_box(request));
     let second = || second(black_box(start), black_box(request));
     let (last, (_, expected, expected_job)) = (ours(), second());
-    assert_eq!(last.job, (&expected_job).into());
-    assert_eq!(as_set(&(&last.zone).into()), as_set(&expected));
-    compare(title, ours, second);
+    assert_eq!(last.job, expected_job.twin());
+    assert_eq!(as_set(&last.zone.twin()), as_set(&expected));
+    rows.compare(title, ours, second);
 }
 
-pub fn run() {
-    for count in [4, 64] {
+/// The new job call alone.
+fn new_job(rows: &mut Table, title: &str, request: &Request) {
+    let ours = || product::new_job(black_box(request));
+    let second = || fresh(black_box(request));
+    assert_eq!(ours().job, second().expect("a sound job").twin());
+    rows.compare(title, ours, second);
+}
+
+pub fn run(rows: &mut Table) {
+    new_job(rows, "new add", &request(Kind::A, 0));
+    new_job(rows, "new remove", &request(Kind::RemoveFirst, 0));
+    for count in [1, 4, 16, 64] {
         let title = format!("add job, name to come, zone of {count}");
         let add = request(Kind::A, count - 1);
-        case(&title, &zone_of(count - 1), &add);
+        case(rows, &title, &zone_of(count - 1), &add);
         let title = format!("add job, name held, zone of {count}");
-        case(&title, &zone_of(count), &add);
+        case(rows, &title, &zone_of(count), &add);
         let title = format!("remove job, zone of {count}");
         let remove = request(Kind::RemoveFirst, count - 1);
-        case(&title, &zone_of(count), &remove);
+        case(rows, &title, &zone_of(count), &remove);
     }
 }

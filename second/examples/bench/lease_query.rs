@@ -1,14 +1,14 @@
-//! The lease query, over tables of 256 records.
-
-#[path = "../../tests/product/lease.rs"]
-mod product;
+//! The lease query, over full tables and over tables of several sizes.
 
 use std::hint::black_box;
 
+use jespurla::Moment;
 use second::lease_query::{answer, Lease, REPLY_MIN, TABLE_MAX};
 use second::NEVER;
 
-use crate::timer::compare;
+use crate::common::product::lease_answer;
+use crate::common::twin::Twin;
+use crate::timer::Table;
 
 const NOW: u64 = 1_000_000;
 const SERVER: [u8; 4] = [192, 0, 2, 1];
@@ -41,13 +41,22 @@ fn lease(address: u32) -> Lease {
     lease
 }
 
+/// A table of `count` records, without the asked client.
+fn table(count: usize) -> Vec<Lease> {
+    (1..).take(count).map(lease).collect()
+}
+
+/// Makes a record the asked client's.
+fn give(lease: &mut Lease) {
+    lease.chaddr[5] = MAC[5];
+    lease.id[ID.len() - 1] = ID[ID.len() - 1];
+}
+
 /// A full table of which `matches` records are the asked client's.
-fn table(matches: usize) -> Vec<Lease> {
-    let mut table: Vec<Lease> = (1..).take(TABLE_MAX).map(lease).collect();
+fn full_table(matches: usize) -> Vec<Lease> {
+    let mut table = table(TABLE_MAX);
     for number in 0..matches {
-        let lease = &mut table[number * TABLE_MAX / matches];
-        lease.chaddr[5] = MAC[5];
-        lease.id[ID.len() - 1] = ID[ID.len() - 1];
+        give(&mut table[number * TABLE_MAX / matches]);
     }
     table
 }
@@ -82,35 +91,57 @@ fn by_address(address: u32) -> Vec<u8> {
     query
 }
 
-fn case(title: &str, table: &[Lease], query: &[u8]) {
+fn case(rows: &mut Table, title: &str, table: &[Lease], query: &[u8]) {
     let (mut ours, mut theirs) = ([7; REPLY_MIN], [7; REPLY_MIN]);
-    let (mut lent, mut packet) = (product::table(table), query.to_vec());
+    let lent = table.twin();
+    let server = u32::from_be_bytes(SERVER);
     let mut product = || {
-        let (table, query) = (black_box(&mut lent), black_box(&mut packet));
-        product::lease_query(NOW, table, SERVER, query, black_box(&mut ours))
+        let (table, query) = (black_box(&lent), black_box(query));
+        jespurla::lease_query(Moment(NOW), table, server, query, black_box(&mut ours))
     };
     let mut second = || {
         let (table, query) = (black_box(table), black_box(query));
         answer(NOW, table, SERVER, query, black_box(&mut theirs))
     };
-    assert_eq!(product(), second().into());
+    assert_eq!(product(), lease_answer(second()));
     let title = format!("lease query, {title}");
-    compare(&title, product, second);
+    rows.compare(&title, product, second);
     assert_eq!(ours, theirs);
 }
 
-pub fn run() {
+/// The three keys of the last record of a table.
+fn sizes(rows: &mut Table, count: usize) {
+    let mut table = table(count);
+    give(&mut table[count - 1]);
+    for (key, query) in [
+        ("by address", by_address(count as u32)),
+        ("by hardware", by_hardware()),
+        ("by client id", by_id()),
+    ] {
+        case(rows, &format!("{key}, table of {count}"), &table, &query);
+    }
+}
+
+pub fn run(rows: &mut Table) {
     for (matches, count) in [
         (0, "no match"),
         (1, "1 match"),
         (3, "3 matches"),
         (70, "70 matches"),
     ] {
-        let table = table(matches);
-        case(&format!("by hardware, {count}"), &table, &by_hardware());
-        case(&format!("by client id, {count}"), &table, &by_id());
+        let table = full_table(matches);
+        case(
+            rows,
+            &format!("by hardware, {count}"),
+            &table,
+            &by_hardware(),
+        );
+        case(rows, &format!("by client id, {count}"), &table, &by_id());
     }
-    let table = table(0);
-    case("by address, active", &table, &by_address(200));
-    case("by address, unknown", &table, &by_address(1_000));
+    let full = full_table(0);
+    case(rows, "by address, active", &full, &by_address(200));
+    case(rows, "by address, unknown", &full, &by_address(1_000));
+    for count in [1, 16, 64, TABLE_MAX] {
+        sizes(rows, count);
+    }
 }

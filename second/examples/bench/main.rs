@@ -1,24 +1,24 @@
 //! Times the product's calls beside the second program's, on the same inputs
-//! in the same run: `cargo run --release --example bench`.
+//! in the same run: `tools/bench`.
 
-/// What the product's modules look for in the tests.
-mod common {
-    pub(crate) use crate::requests;
-}
+#[path = "../../tests/common/mod.rs"]
+mod common;
 mod job;
 mod lease_query;
 mod name_option;
-#[path = "../../tests/common/requests.rs"]
-mod requests;
 mod server_list;
 mod timer;
 mod zone;
+mod zones;
 
 fn main() {
-    timer::head();
-    name_option::run();
-    server_list::run();
-    lease_query::run();
-    zone::run();
-    job::run();
+    let mut table = timer::Table::default();
+    for _ in 0..timer::PASSES {
+        name_option::run(&mut table);
+        server_list::run(&mut table);
+        lease_query::run(&mut table);
+        zone::run(&mut table);
+        job::run(&mut table);
+    }
+    table.print();
 }

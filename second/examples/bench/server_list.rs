@@ -1,14 +1,13 @@
 //! The server list call, on small and on the largest areas.
 
-#[path = "../../tests/product/server_list.rs"]
-mod product;
-
 use std::hint::black_box;
 
+use jespurla::Moment;
 use second::server_list::{update, Entry, ServerList};
 use second::NEVER;
 
-use crate::timer::compare;
+use crate::common::twin::Twin;
+use crate::timer::Table;
 
 const NOW: u64 = 1_000;
 
@@ -44,17 +43,16 @@ fn list(count: usize) -> ServerList {
     list
 }
 
-fn case(title: &str, count: usize, area: Vec<u8>) {
+fn case(rows: &mut Table, title: &str, count: usize, area: Vec<u8>) {
     let list = list(count);
-    let given: product::ServerList = (&list).into();
-    let mut lent = area.clone();
-    let mut product = || product::server_list(*black_box(&given), NOW, black_box(&mut lent));
+    let given = list.twin();
+    let product = || jespurla::server_list(black_box(&given), Moment(NOW), black_box(&area));
     let second = || update(black_box(&list), NOW, black_box(&area));
     let expected = second().expect("a sound list and area");
     let got = product();
-    assert_eq!((got.refusal, ServerList::from(&got.list)), (0, expected));
+    assert_eq!((got.refusal, got.list.twin()), (0, expected));
     let title = format!("server list, {title}");
-    compare(&title, product, second);
+    rows.compare(&title, product, second);
 }
 
 /// Options of 3 addresses each, up to the largest area that can be sound:
@@ -68,26 +66,29 @@ fn large(servers: impl Fn(u8) -> [u8; 3]) -> Vec<u8> {
     area
 }
 
-pub fn run() {
-    case("no options, 8 held", 8, vec![]);
-    case("1 address renewed of 4", 4, option(60, &[3]));
-    case("1 address inserted before 4", 4, option(60, &[9]));
+pub fn run(rows: &mut Table) {
+    case(rows, "no options, 8 held", 8, vec![]);
+    case(rows, "1 address renewed of 4", 4, option(60, &[3]));
+    case(rows, "1 address inserted before 4", 4, option(60, &[9]));
     case(
+        rows,
         "3 addresses inserted, 3 evicted",
         8,
         option(60, &[9, 10, 11]),
     );
-    case("3 addresses removed of 8", 8, option(0, &[8, 1, 4]));
+    case(rows, "3 addresses removed of 8", 8, option(0, &[8, 1, 4]));
     case(
+        rows,
         "1,496 octets, other options",
         8,
         [1, 1, 0, 0, 0, 0, 0, 0].repeat(187),
     );
     case(
+        rows,
         "1,496 octets, 78 addresses renewed",
         8,
         large(|_| [1, 5, 8]),
     );
     let new = |at: u8| [3 * at + 9, 3 * at + 10, 3 * at + 11];
-    case("1,496 octets, 78 addresses inserted", 8, large(new));
+    case(rows, "1,496 octets, 78 addresses inserted", 8, large(new));
 }

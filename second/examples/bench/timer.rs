@@ -3,45 +3,92 @@
 use std::hint::black_box;
 use std::time::{Duration, Instant};
 
-/// Rounds of each program; the quickest one counts, as the others were
-/// disturbed.
-const ROUNDS: usize = 150;
-/// What one round should take.
+/// Times that the whole table is gone through, so that a row's rounds are
+/// spread over the run.
+pub const PASSES: usize = 15;
+/// Rounds of each program in a pass.
+const ROUNDS: usize = 11;
+/// What a round of ours should take: less than a processor is given at a
+/// time, so that most rounds are whole.
 const ROUND: Duration = Duration::from_micros(400);
 
-pub fn head() {
-    let (ours, second, ratio) = ("ours ns", "second ns", "ratio");
-    println!("{:<52}{ours:>10}{second:>11}{ratio:>7}", "call");
-}
-
-/// The time of `calls` calls.
-fn round<T>(call: &mut impl FnMut() -> T, calls: u32) -> Duration {
+/// The time of a call, in nanoseconds, over `calls` calls.
+fn round<T>(call: &mut impl FnMut() -> T, calls: u32) -> f64 {
     let start = Instant::now();
     for _ in 0..calls {
         black_box(&call());
     }
-    start.elapsed()
+    start.elapsed().as_nanos() as f64 / f64::from(calls)
 }
 
 /// How many calls fill a round.
 fn calls_in_a_round<T>(call: &mut impl FnMut() -> T) -> u32 {
     let mut calls = 1;
-    while round(call, calls) < ROUND {
+    while round(call, calls) * f64::from(calls) < ROUND.as_nanos() as f64 {
         calls *= 2;
     }
     calls
 }
 
-/// Times both and prints a line.
-pub fn compare<A, B>(name: &str, mut ours: impl FnMut() -> A, mut second: impl FnMut() -> B) {
-    let calls = calls_in_a_round(&mut ours);
-    let (mut least_ours, mut least_second) = (Duration::MAX, Duration::MAX);
-    for _ in 0..ROUNDS {
-        least_ours = least_ours.min(round(&mut ours, calls));
-        least_second = least_second.min(round(&mut second, calls));
+/// The one in the middle by size.
+fn median(mut numbers: Vec<f64>) -> f64 {
+    let middle = numbers.len() / 2;
+    *numbers.select_nth_unstable_by(middle, f64::total_cmp).1
+}
+
+/// What was measured for one row.
+struct Row {
+    name: String,
+    ours: Vec<f64>,
+    second: Vec<f64>,
+}
+
+/// The rows in the order in which they first came.
+#[derive(Default)]
+pub struct Table {
+    rows: Vec<Row>,
+}
+
+impl Table {
+    /// The row of this name, made where it is new.
+    fn row(&mut self, name: &str) -> &mut Row {
+        let known = self.rows.iter().position(|row| row.name == name);
+        let at = known.unwrap_or(self.rows.len());
+        if known.is_none() {
+            self.rows.push(Row {
+                name: name.to_string(),
+                ours: Vec::new(),
+                second: Vec::new(),
+            });
+        }
+        &mut self.rows[at]
     }
-    let nanos = |time: Duration| time.as_nanos() as f64 / f64::from(calls);
-    let (ours, second) = (nanos(least_ours), nanos(least_second));
-    let ratio = ours / second;
-    println!("{name:<52}{ours:>10.1}{second:>11.1}{ratio:>7.2}");
+
+    /// Times both in turns.
+    pub fn compare<A, B>(
+        &mut self,
+        name: &str,
+        mut ours: impl FnMut() -> A,
+        mut second: impl FnMut() -> B,
+    ) {
+        let calls = calls_in_a_round(&mut ours);
+        let row = self.row(name);
+        for _ in 0..ROUNDS {
+            row.ours.push(round(&mut ours, calls));
+            row.second.push(round(&mut second, calls));
+        }
+    }
+
+    /// Prints a line for each row: the median of each program, and the median
+    /// of the ratios of neighbouring rounds, which meet the same load.
+    pub fn print(self) {
+        let (ours, second, ratio) = ("ours ns", "second ns", "ratio");
+        println!("{:<52}{ours:>10}{second:>11}{ratio:>7}", "call");
+        for row in self.rows {
+            let ratios = row.ours.iter().zip(&row.second);
+            let ratio = median(ratios.map(|(ours, second)| ours / second).collect());
+            let (ours, second) = (median(row.ours), median(row.second));
+            println!("{:<52}{ours:>10.1}{second:>11.1}{ratio:>7.2}", row.name);
+        }
+    }
 }

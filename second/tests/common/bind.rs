@@ -3,6 +3,7 @@
 
 use std::collections::BTreeSet;
 
+use second::job::{self, Job};
 use second::zone::{as_set, Address, Holding, Name, Zone};
 
 use super::requests::{Kind, Reply, Request};
@@ -24,8 +25,8 @@ pub struct Agreed {
     pub ends: usize,
 }
 
-/// A line of the file.
-pub enum Line {
+/// A line of the file; jobs are numbered from 0 as they come in their list.
+enum Line {
     List,
     /// What the job's requests carry; the kind is that of its first one.
     Job(Request),
@@ -114,44 +115,88 @@ fn read(line: &str) -> Line {
     }
 }
 
-/// The file's lines with what they say; jobs are numbered from 0 as they
-/// come in their list.
-pub fn lines() -> impl Iterator<Item = (&'static str, Line)> {
-    UPDATES.lines().map(|line| (line, read(line)))
-}
-
-/// Checks an end line against a zone of ours.
-pub fn check_end(line: &str, zone: &Zone, name: &[u8], held: Option<Holding>) {
-    assert_eq!(as_set(zone).remove(name), held, "{line}");
-}
-
-/// Sends every request in its order; each answer and each end line must be
-/// BIND's. Every list starts from an empty zone.
-pub fn replay(mut send: impl FnMut(&mut Zone, &Request) -> Result<Reply, u8>) -> Agreed {
+/// Goes through the file. Every list starts from an empty zone; its jobs are
+/// made as they come and must have ended with it; each request is put to its
+/// job; and each end line must be what the zone holds.
+fn walk<J>(
+    make: impl Fn(&Request) -> J,
+    mut ask: impl FnMut(&str, &mut Zone, &mut J, (Kind, Reply)),
+    has_ended: impl Fn(&J) -> bool,
+) -> Agreed {
     let mut agreed = Agreed::default();
     let mut zone = Zone::EMPTY;
-    let mut jobs: Vec<Request> = Vec::new();
-    for (line, read) in lines() {
-        match read {
+    let mut jobs: Vec<J> = Vec::new();
+    for line in UPDATES.lines() {
+        match read(line) {
             Line::List => {
+                assert!(jobs.iter().all(&has_ended), "before {line}");
                 agreed.lists += 1;
                 zone = Zone::EMPTY;
                 jobs.clear();
             }
-            Line::Job(job) => jobs.push(job),
+            Line::Job(request) => jobs.push(make(&request)),
             Line::Ask(number, kind, reply) => {
-                let request = Request {
-                    kind,
-                    ..jobs[number]
-                };
-                assert_eq!(send(&mut zone, &request), Ok(reply), "{line}");
+                ask(line, &mut zone, &mut jobs[number], (kind, reply));
                 agreed.asks += 1;
             }
             Line::End(name, held) => {
-                check_end(line, &zone, &name, held);
+                assert_eq!(as_set(&zone).remove(&name), held, "{line}");
                 agreed.ends += 1;
             }
         }
     }
+    assert!(jobs.iter().all(&has_ended));
     agreed
+}
+
+/// Sends every request in its order; each answer must be BIND's.
+pub fn replay(mut send: impl FnMut(&mut Zone, &Request) -> Result<Reply, u8>) -> Agreed {
+    let ask = |line: &str, zone: &mut Zone, job: &mut Request, (kind, reply)| {
+        let request = Request { kind, ..*job };
+        assert_eq!(send(zone, &request), Ok(reply), "{line}");
+    };
+    walk(|request| *request, ask, |_| true)
+}
+
+/// Steps the jobs; they must send the very requests that stand there, and
+/// count their own.
+pub fn replay_jobs(
+    make: impl Fn(&Request) -> Result<Job, u8>,
+    mut step: impl FnMut(&mut Zone, &mut Job) -> Result<(), u8>,
+) -> Agreed {
+    let ask = |line: &str, zone: &mut Zone, (job, sent): &mut (Job, u8), (kind, reply)| {
+        assert_eq!(job.stage, before(kind), "{line}");
+        assert_eq!(step(zone, job), Ok(()), "{line}");
+        *sent += 1;
+        assert_eq!(job.stage, after(kind, reply), "{line}");
+        let count = if job.is_add() { *sent } else { 0 };
+        assert_eq!(job.count, count, "{line}");
+    };
+    let fresh = |request: &Request| (make(request).expect("a sound job"), 0);
+    walk(fresh, ask, |(job, _)| job.has_ended())
+}
+
+/// The stage before a request.
+fn before(kind: Kind) -> u8 {
+    match kind {
+        Kind::A => job::BEFORE_A,
+        Kind::B => job::BEFORE_B,
+        Kind::RemoveFirst => job::BEFORE_FIRST,
+        Kind::RemoveSecond => job::BEFORE_SECOND,
+    }
+}
+
+/// The stage that BIND's answer to a request leads to.
+fn after(kind: Kind, reply: Reply) -> u8 {
+    match (kind, reply) {
+        (Kind::A | Kind::B, Reply::Success) => job::DONE,
+        (Kind::A, Reply::YxDomain) => job::BEFORE_B,
+        (Kind::B, Reply::NxDomain) => job::BEFORE_A,
+        (Kind::B, Reply::NxRrset) => job::CONFLICT,
+        (Kind::RemoveFirst, Reply::Success) => job::BEFORE_SECOND,
+        (Kind::RemoveFirst, Reply::NotOurs) => job::NOT_OURS,
+        (Kind::RemoveSecond, Reply::Success) => job::GONE,
+        (Kind::RemoveSecond, Reply::Kept) => job::KEPT,
+        _ => panic!("{kind:?} doesn't answer {reply:?}"),
+    }
 }

@@ -5,7 +5,7 @@ use second::job::{self, Job};
 use second::zone::{Address, Dhcid, Entry, Name, Set, Zone, FREE, HELD, PLACES, SET_MAX, STATIC};
 
 use super::random::Random;
-use super::requests::{Kind, Reply, Request};
+use super::requests::{Kind, Request};
 use super::zones::Stock;
 
 /// The stages of adds and removes, ended or not.
@@ -60,31 +60,6 @@ pub fn fresh(request: &Request) -> Result<Job, u8> {
         job::new_add(name, dhcid, request.family, address, request.policy)
     } else {
         job::new_remove(name, dhcid, request.family, address)
-    }
-}
-
-/// The stage before a request.
-pub fn before(kind: Kind) -> u8 {
-    match kind {
-        Kind::A => job::BEFORE_A,
-        Kind::B => job::BEFORE_B,
-        Kind::RemoveFirst => job::BEFORE_FIRST,
-        Kind::RemoveSecond => job::BEFORE_SECOND,
-    }
-}
-
-/// The stage that BIND's answer to a request leads to.
-pub fn after(kind: Kind, reply: Reply) -> u8 {
-    match (kind, reply) {
-        (Kind::A | Kind::B, Reply::Success) => job::DONE,
-        (Kind::A, Reply::YxDomain) => job::BEFORE_B,
-        (Kind::B, Reply::NxDomain) => job::BEFORE_A,
-        (Kind::B, Reply::NxRrset) => job::CONFLICT,
-        (Kind::RemoveFirst, Reply::Success) => job::BEFORE_SECOND,
-        (Kind::RemoveFirst, Reply::NotOurs) => job::NOT_OURS,
-        (Kind::RemoveSecond, Reply::Success) => job::GONE,
-        (Kind::RemoveSecond, Reply::Kept) => job::KEPT,
-        _ => panic!("{kind:?} doesn't answer {reply:?}"),
     }
 }
 

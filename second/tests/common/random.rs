@@ -1,13 +1,14 @@
 //! A small repeatable generator (splitmix64).
 
 use std::env;
+use std::thread;
 use std::time::{SystemTime, UNIX_EPOCH};
 
 /// The seed of the run that is the same every time.
 pub const FIXED_SEED: u64 = 0x5eed_4704;
 
 /// A seed from the clock, or JESPURLA_SEED to repeat an earlier run.
-pub fn fresh_seed() -> u64 {
+fn fresh_seed() -> u64 {
     if let Ok(given) = env::var("JESPURLA_SEED") {
         return given.parse().expect("JESPURLA_SEED is a decimal number");
     }
@@ -15,16 +16,29 @@ pub fn fresh_seed() -> u64 {
     since.map_or(1, |span| span.as_nanos() as u64)
 }
 
-pub struct Random(u64);
+/// A run from the fixed seed and one from a fresh seed, side by side.
+pub fn from_both_seeds(run: impl Fn(u64) + Sync) {
+    thread::scope(|scope| {
+        scope.spawn(|| run(FIXED_SEED));
+        run(fresh_seed());
+    });
+}
+
+pub struct Random {
+    pub seed: u64,
+    state: u64,
+}
 
 impl Random {
+    /// Starts from a seed, and says from which.
     pub fn new(seed: u64) -> Random {
-        Random(seed)
+        println!("seed {seed} (JESPURLA_SEED={seed} repeats it as the fresh one)");
+        Random { seed, state: seed }
     }
 
     pub fn next(&mut self) -> u64 {
-        self.0 = self.0.wrapping_add(0x9e37_79b9_7f4a_7c15);
-        let mut mixed = self.0;
+        self.state = self.state.wrapping_add(0x9e37_79b9_7f4a_7c15);
+        let mut mixed = self.state;
         mixed = (mixed ^ (mixed >> 30)).wrapping_mul(0xbf58_476d_1ce4_e5b9);
         mixed = (mixed ^ (mixed >> 27)).wrapping_mul(0x94d0_49bb_1331_11eb);
         mixed ^ (mixed >> 31)

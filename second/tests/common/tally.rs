@@ -1,16 +1,18 @@
 //! Counts what a run came upon, and fails where something was too rare.
 
 pub struct Tally {
-    kinds: &'static [&'static str],
+    kinds: Vec<&'static str>,
     counts: Vec<usize>,
     pub cases: usize,
 }
 
 impl Tally {
-    pub fn new(kinds: &'static [&'static str]) -> Tally {
+    /// Counts the kinds of all these lists.
+    pub fn new(lists: &[&[&'static str]]) -> Tally {
+        let kinds = lists.concat();
         Tally {
-            kinds,
             counts: vec![0; kinds.len()],
+            kinds,
             cases: 0,
         }
     }

@@ -2,11 +2,24 @@
 //! addresses, and broken ones of every kind.
 
 use second::name_option::{shape, Shape};
-use second::zone::{Address, Dhcid, Entry, Name, Set, Zone, FREE, HELD, PLACES, SET_MAX, STATIC};
+use second::zone::{
+    as_set, Address, Dhcid, Entry, Name, Set, Zone, FREE, HELD, PLACES, SET_MAX, STATIC,
+};
 
 use super::names;
 use super::random::Random;
 use super::requests::{Kind, Request};
+
+/// The ways in which a zone's form is broken.
+pub const FAULTS: &[&str] = &[
+    "17: kind",
+    "17: name not full",
+    "17: fifth address of family 4",
+    "17: fifth address of family 6",
+    "17: address twice, family 4",
+    "17: address twice, family 6",
+    "17: name twice",
+];
 
 /// What a chain's zones and requests are made of.
 pub struct Stock {
@@ -264,4 +277,22 @@ fn shuffle(random: &mut Random, zone: &mut Zone) {
     for last in (1..PLACES).rev() {
         zone.entries.swap(last, random.between(0, last));
     }
+}
+
+/// Whether two places are free, or have the same name with the same owner and
+/// addresses in the same order.
+pub fn same_place(left: &Entry, right: &Entry) -> bool {
+    if left.kind != right.kind || left.kind == FREE {
+        return left.kind == right.kind;
+    }
+    left.name == right.name
+        && left.dhcid == right.dhcid
+        && left.v4.as_slice() == right.v4.as_slice()
+        && left.v6.as_slice() == right.v6.as_slice()
+}
+
+/// Whether two zones are the same; where every place agrees they are.
+pub fn same_zone(left: &Zone, right: &Zone) -> bool {
+    let mut places = left.entries.iter().zip(&right.entries);
+    places.all(|(left, right)| same_place(left, right)) || as_set(left) == as_set(right)
 }

@@ -1,0 +1,334 @@
+//! The twelve calls. This module alone has unsafe code.
+
+use crate::{
+    Address, Answered, Dhcid, Job, Lease, LeaseAnswer, Moment, Name, NewJob, Number,
+    ServerListAnswer, ServerListState, Stepped, Zone,
+};
+
+/// The calls as include/jespurla.h declares them.
+mod c {
+    use super::*;
+
+    extern "C" {
+        pub fn jespurla_flag_decision(flags: u8, honour_s: u8, honour_n: u8) -> u32;
+
+        pub fn jespurla_name_option_answer(
+            value: *const u8,
+            value_length: usize,
+            suffix: *const u8,
+            suffix_length: usize,
+            honour_s: u8,
+            honour_n: u8,
+            reply: *mut u8,
+            reply_length: usize,
+        ) -> u32;
+
+        pub fn jespurla_server_list(
+            list: ServerListState,
+            clock: Moment,
+            area: *const u8,
+            area_length: usize,
+        ) -> ServerListAnswer;
+
+        pub fn jespurla_lease_query(
+            clock: Moment,
+            table: *const Lease,
+            count: usize,
+            server: u32,
+            query: *const u8,
+            query_length: usize,
+            reply: *mut u8,
+            reply_length: usize,
+        ) -> LeaseAnswer;
+
+        pub fn jespurla_zone_check(zone: Zone, name: Name, family: u8, policy: u8) -> u32;
+
+        pub fn jespurla_request_a(
+            zone: Zone,
+            name: Name,
+            dhcid: Dhcid,
+            family: u8,
+            address: Address,
+        ) -> Answered;
+
+        pub fn jespurla_request_b(
+            zone: Zone,
+            name: Name,
+            dhcid: Dhcid,
+            family: u8,
+            address: Address,
+            policy: u8,
+        ) -> Answered;
+
+        pub fn jespurla_request_remove_address(
+            zone: Zone,
+            name: Name,
+            dhcid: Dhcid,
+            family: u8,
+            address: Address,
+        ) -> Answered;
+
+        pub fn jespurla_request_remove_name(
+            zone: Zone,
+            name: Name,
+            dhcid: Dhcid,
+            family: u8,
+            address: Address,
+        ) -> Answered;
+
+        pub fn jespurla_new_add(
+            name: Name,
+            dhcid: Dhcid,
+            family: u8,
+            address: Address,
+            policy: u8,
+        ) -> NewJob;
+
+        pub fn jespurla_new_remove(
+            name: Name,
+            dhcid: Dhcid,
+            family: u8,
+            address: Address,
+        ) -> NewJob;
+
+        pub fn jespurla_job_step(zone: Zone, job: Job) -> Stepped;
+    }
+}
+
+/// The flag decision of the DHCPv6 name option.
+///
+/// `flags` is the client's flags octet; bits above N are ignored. `honour_s`
+/// and `honour_n` say whether S, or N, may be honoured: a bool, or a number of
+/// which 0 is no and any other yes.
+///
+/// Result: the flags octet of the answer: 0, 1, 2 or 4.
+/// Refusal: 10 where O is set, or S and N both.
+/// Promise: the number is the entry of document 01's table of 32.
+#[inline]
+pub fn flag_decision(flags: u8, honour_s: impl Into<u8>, honour_n: impl Into<u8>) -> Number {
+    // SAFETY: numbers in, a number out; no memory is lent.
+    Number(unsafe { c::jespurla_flag_decision(flags, honour_s.into(), honour_n.into()) })
+}
+
+/// The server's answer to a DHCPv6 name option.
+///
+/// `value` is the option's value, a flags octet and then a name; `suffix`, a
+/// full name, completes a partial one; `honour_s` and `honour_n` are as in
+/// [`flag_decision`]. The answer goes to `reply`, at least 256 octets.
+///
+/// Result: how many octets were written to the front of `reply`: the flags
+/// octet and a full name. A full name is answered octet for octet, a partial
+/// one is followed by the suffix. The octets of `reply` past those keep their
+/// values.
+/// Refusals, the first that applies: 14 reply under 256 octets; 10 value
+/// empty, or its flags refused; 11 suffix not a full name; 12 name empty; 11
+/// name malformed; 13 completed name over 255 octets.
+/// Promise: the number and every octet of `reply`, refused or not, are those
+/// that the rules give.
+#[inline]
+pub fn name_option_answer(
+    value: &[u8],
+    suffix: &[u8],
+    honour_s: impl Into<u8>,
+    honour_n: impl Into<u8>,
+    reply: &mut [u8],
+) -> Number {
+    // SAFETY: each pointer comes from a slice that outlives the call, with
+    // that slice's length; a slice's pointer is never null, and `reply` is
+    // borrowed apart from the others.
+    Number(unsafe {
+        c::jespurla_name_option_answer(
+            value.as_ptr(),
+            value.len(),
+            suffix.as_ptr(),
+            suffix.len(),
+            honour_s.into(),
+            honour_n.into(),
+            reply.as_mut_ptr(),
+            reply.len(),
+        )
+    })
+}
+
+/// The DNS server list (RFC 5006) after a router's option area has come in.
+///
+/// `list` is the list as the call before returned it; `clock` is now; `area`
+/// has the options of a router advertisement, one behind the other.
+///
+/// Result: refusal 0, and the new list at the new clock; or a refusal, and the
+/// very list that was handed in.
+/// Refusals, the first that applies: 31 list with a count over 8, two entries
+/// of one address, an expiry that is neither a moment nor never, or a clock
+/// above [`Moment::LATEST`]; 15 clock above [`Moment::LATEST`] or behind the
+/// list's; 16 area over 1,500 octets, or with an option of Length 0 or one
+/// past the end.
+/// Promise: the refusal and every field of the list are those that the rules
+/// give.
+#[inline]
+pub fn server_list(list: &ServerListState, clock: Moment, area: &[u8]) -> ServerListAnswer {
+    // SAFETY: the pointer comes from a slice that outlives the call, with that
+    // slice's length; a slice's pointer is never null.
+    unsafe { c::jespurla_server_list(*list, clock, area.as_ptr(), area.len()) }
+}
+
+/// The reply to a DHCPv4 lease query.
+///
+/// `clock` is now; `table` is the lease table, at most 256 records, addresses
+/// nonzero and strictly rising; `server` is this server's address as a number;
+/// `query` is the packet. The reply goes to `reply`, at least 648 octets.
+///
+/// Result: refusal 0, the kind of the reply and how many octets it has at the
+/// front of `reply`; the octets of `reply` past those keep their values.
+/// Beside a refusal kind and length are 0.
+/// Refusals, the first that applies: 15 clock above [`Moment::LATEST`]; 9 the
+/// table breaks its form; 8 reply under 648 octets; 1 packet under 240 or over
+/// 1,500 octets, or a wrong cookie; 2 op not 1; 3 options past the end, no end
+/// option, or 53 or 61 twice; 4 option 53 absent, not one octet or not 10; 5
+/// giaddr zero; 6 not exactly one key; 7 hardware key with hlen 0 or above 16,
+/// or a client id of 0 or 1 octets.
+/// Promise: the answer and every octet of `reply`, refused or not, are those
+/// that the rules give. A query by client that meets no refusal is answered
+/// LEASEUNKNOWN exactly if no active lease of that client stands in the table.
+#[inline]
+pub fn lease_query(
+    clock: Moment,
+    table: &[Lease],
+    server: u32,
+    query: &[u8],
+    reply: &mut [u8],
+) -> LeaseAnswer {
+    // SAFETY: each pointer comes from a slice that outlives the call, with
+    // that slice's length; a slice's pointer is never null, and `reply` is
+    // borrowed apart from the others.
+    unsafe {
+        c::jespurla_lease_query(
+            clock,
+            table.as_ptr(),
+            table.len(),
+            server,
+            query.as_ptr(),
+            query.len(),
+            reply.as_mut_ptr(),
+            reply.len(),
+        )
+    }
+}
+
+/// The refusal that a request with these would get, 0 for none. Where there is
+/// no policy, pass 0.
+///
+/// Refusals of this and of the four requests, the first that applies: 17 the
+/// zone breaks its form (a kind not listed, a name that is not full, two equal
+/// names, a count over 4, two equal addresses of a name); 18 a family or
+/// policy not listed; 11 a name that is not full. A refused request returns
+/// the very zone that it was handed, and answer 0. Any other returns the
+/// answer of the rules and a zone of good form with the names, owners and
+/// addresses that the rules give; a request that doesn't succeed changes
+/// nothing.
+#[inline]
+pub fn zone_check(zone: &Zone, name: &Name, family: u8, policy: u8) -> u32 {
+    // SAFETY: values in, a number out; no memory is lent.
+    unsafe { c::jespurla_zone_check(*zone, *name, family, policy) }
+}
+
+/// A: adds an absent name with the DHCID and the address. YXDOMAIN where the
+/// name is there; NO_ROOM where it would be the 65th. Refusals as in
+/// [`zone_check`].
+#[inline]
+pub fn request_a(
+    zone: &Zone,
+    name: &Name,
+    dhcid: &Dhcid,
+    family: u8,
+    address: &Address,
+) -> Answered {
+    // SAFETY: values in, a value out; no memory is lent.
+    unsafe { c::jespurla_request_a(*zone, *name, *dhcid, family, *address) }
+}
+
+/// B: at a name that the DHCID holds, deletes by policy, then adds the address
+/// unless present. NXDOMAIN where the name is absent; NXRRSET where it is
+/// static or held by another; NO_ROOM where the address would be the fifth of
+/// its family. Refusals as in [`zone_check`].
+#[inline]
+pub fn request_b(
+    zone: &Zone,
+    name: &Name,
+    dhcid: &Dhcid,
+    family: u8,
+    address: &Address,
+    policy: u8,
+) -> Answered {
+    // SAFETY: values in, a value out; no memory is lent.
+    unsafe { c::jespurla_request_b(*zone, *name, *dhcid, family, *address, policy) }
+}
+
+/// The first remove request: at a name that the DHCID holds, deletes the
+/// address if it is there. NXRRSET where the DHCID does not hold the name.
+/// Refusals as in [`zone_check`].
+#[inline]
+pub fn request_remove_address(
+    zone: &Zone,
+    name: &Name,
+    dhcid: &Dhcid,
+    family: u8,
+    address: &Address,
+) -> Answered {
+    // SAFETY: values in, a value out; no memory is lent.
+    unsafe { c::jespurla_request_remove_address(*zone, *name, *dhcid, family, *address) }
+}
+
+/// The second remove request: deletes a name that the DHCID holds and that has
+/// no address. NXRRSET where the DHCID does not hold the name or an address is
+/// left. Refusals as in [`zone_check`].
+#[inline]
+pub fn request_remove_name(
+    zone: &Zone,
+    name: &Name,
+    dhcid: &Dhcid,
+    family: u8,
+    address: &Address,
+) -> Answered {
+    // SAFETY: values in, a value out; no memory is lent.
+    unsafe { c::jespurla_request_remove_name(*zone, *name, *dhcid, family, *address) }
+}
+
+/// A fresh add that has sent nothing yet.
+///
+/// Refusals, the first that applies: 18 a family or policy not listed; 11 a
+/// name that is not full. A refused call gives a job of zeros, which no step
+/// takes.
+#[inline]
+pub fn new_add(name: &Name, dhcid: &Dhcid, family: u8, address: &Address, policy: u8) -> NewJob {
+    // SAFETY: values in, a value out; no memory is lent.
+    unsafe { c::jespurla_new_add(*name, *dhcid, family, *address, policy) }
+}
+
+/// A fresh remove that has sent nothing yet. Refusals as in [`new_add`], but
+/// that it has no policy.
+#[inline]
+pub fn new_remove(name: &Name, dhcid: &Dhcid, family: u8, address: &Address) -> NewJob {
+    // SAFETY: values in, a value out; no memory is lent.
+    unsafe { c::jespurla_new_remove(*name, *dhcid, family, *address) }
+}
+
+/// One step of a job: the one request that its stage asks for, tested and done
+/// at once on the zone, and where the answer leads the job. An add starts with
+/// A; YXDOMAIN leads to B, NXDOMAIN back to A; it ends done, in conflict,
+/// without room, or, where its sixth request says NXDOMAIN, having given up. A
+/// remove sends its two requests. A job that has ended changes nothing.
+///
+/// Refusals, the first that applies: 17 the zone breaks its form; 18 a stage,
+/// family or policy not listed, or a count that the stage can't have; 11 a
+/// name that is not full. A refused step returns the very zone and job that it
+/// was handed.
+/// Promise: the refusal, the job, and the names, owners and addresses of the
+/// zone are those that the rules give. Of all the steps together: however the
+/// steps of any jobs are mixed, some order of the whole jobs, adds without
+/// room and those that gave up left out, ends with the same zone and the same
+/// answer to every add (docs/DEMAND-3.md).
+#[inline]
+pub fn job_step(zone: &Zone, job: &Job) -> Stepped {
+    // SAFETY: values in, a value out; no memory is lent.
+    unsafe { c::jespurla_job_step(*zone, *job) }
+}

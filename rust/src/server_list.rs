@@ -1,0 +1,51 @@
+//! The DNS servers that routers announce.
+
+use crate::{Moment, Refusal};
+
+/// A DNS server that a router announced: an IPv6 address and its expiry.
+#[repr(C)]
+#[derive(Clone, Copy, PartialEq, Eq, Debug, Default)]
+pub struct Server {
+    /// The IPv6 address.
+    pub address: [u8; 16],
+    /// A moment, or never.
+    pub expiry: Moment,
+}
+
+/// The DNS servers, the preferred one first, and the last accepted clock. The
+/// default list is empty, at clock 0. Entries past the count are not looked
+/// at, and are zero in a list that a call made.
+#[repr(C)]
+#[derive(Clone, Copy, PartialEq, Eq, Debug, Default)]
+pub struct ServerListState {
+    /// The servers held, and room for more.
+    pub entries: [Server; 8],
+    /// How many are held; above 8 breaks the form.
+    pub count: usize,
+    /// The last accepted clock.
+    pub clock: Moment,
+}
+
+impl ServerListState {
+    /// The servers held; all entries where the count claims more.
+    pub fn held(&self) -> &[Server] {
+        &self.entries[..self.count.min(8)]
+    }
+}
+
+/// What [`server_list`](crate::server_list()) answers.
+#[repr(C)]
+#[derive(Clone, Copy, PartialEq, Eq, Debug)]
+pub struct ServerListAnswer {
+    /// 0 for none.
+    pub refusal: u32,
+    /// The new list, or the very list that was handed in.
+    pub list: ServerListState,
+}
+
+impl ServerListAnswer {
+    /// The new list, or why it is refused.
+    pub fn ok(self) -> Result<ServerListState, Refusal> {
+        Refusal::check(self.refusal).map(|()| self.list)
+    }
+}

@@ -1,0 +1,19 @@
+//! What the tests and the benchmark share; each uses a part of it.
+
+#![allow(dead_code)]
+
+pub mod areas;
+pub mod bind;
+pub mod faults;
+pub mod jobs;
+pub mod leases;
+pub mod lent;
+pub mod moments;
+pub mod names;
+pub mod product;
+pub mod queries;
+pub mod random;
+pub mod requests;
+pub mod tally;
+pub mod twin;
+pub mod zones;

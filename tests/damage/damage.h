@@ -1,0 +1,76 @@
+/* What the files of the damage test share. */
+#ifndef DAMAGE_H
+#define DAMAGE_H
+
+#include "jespurla.h"
+
+#include <stdbool.h>
+
+/* random.c: a repeatable generator. */
+void random_seed(uint64_t seed);
+uint64_t random_next(void);
+/* A number below the bound, which is not 0. */
+size_t random_below(size_t bound);
+bool one_in(size_t times);
+void random_fill(void *octets, size_t length);
+/* Changes from one to four octets, near the front as often as anywhere. */
+void damage_octets(void *octets, size_t length);
+
+/* lend.c: memory that ends, or starts, at an unreadable page. */
+typedef enum { AT_THE_END, AT_THE_START } side;
+typedef enum { VALUE, SUFFIX, AREA, TABLE, QUERY, REPLY, PLACES } place;
+void lend_open(void);
+void lend_choose(side chosen);
+/* A lent copy of the octets; at most LEND_MOST. */
+#define LEND_MOST 49152
+uint8_t *lend(place where, const void *octets, size_t length);
+/* Fails where an octet from `kept` on, or a guard octet beside the lent ones, is not as it was. */
+void lend_check(place where, size_t kept);
+
+/* tally.c: what the calls gave. */
+typedef enum {
+    FLAG_DECISION,
+    NAME_OPTION_ANSWER,
+    SERVER_LIST,
+    LEASE_QUERY,
+    ZONE_CHECK,
+    REQUEST_A,
+    REQUEST_B,
+    REMOVE_ADDRESS,
+    REMOVE_NAME,
+    NEW_ADD,
+    NEW_REMOVE,
+    JOB_STEP,
+    CALLS
+} call;
+/* Ends the program where what has to hold does not. */
+void must(bool holds, const char *what);
+/* Counts a refusal, which must be one of the list that 0 ends; where it is 0, an answer of this kind
+ * (at most 256). */
+void tally_count(call which, uint32_t refusal, uint32_t kind, const uint32_t *listed);
+/* Prints the table; whether every call was answered, and met each of its refusals. */
+bool tally_report(void);
+
+/* inputs.c: names in octets, sound mostly. The length, at most 300. */
+size_t some_name(uint8_t *octets);
+jespurla_name some_zone_name(void);
+jespurla_dhcid some_dhcid(void);
+jespurla_address some_address(void);
+uint8_t some_family(void);
+uint8_t some_policy(void);
+jespurla_moment some_moment(void);
+
+/* One turn of the calls of each file. */
+void turn_names(void);
+void turn_servers(void);
+void turn_leases(void);
+void turn_zones(void);
+void turn_jobs(void);
+
+/* zones.c: a zone that is sound mostly, and the refusals of what reads one. */
+extern const uint32_t zone_refusals[];
+const jespurla_zone *some_zone(void);
+/* Takes over the zone that an unrefused call has left, which must be sound. */
+void leave_zone(const jespurla_zone *zone);
+
+#endif

@@ -1,0 +1,69 @@
+/* New jobs and job steps. */
+#include "damage.h"
+
+#include <string.h>
+
+/* Jobs under way, as the new job calls and the steps gave them. */
+#define JOBS 8
+static jespurla_job jobs[JOBS];
+
+/* A new job in one of the places, an add or a remove. */
+static void turn_new(call which)
+{
+    static const uint32_t listed[] = { 18, 11, 0 };
+    static const jespurla_job zeros;
+    jespurla_name name = some_zone_name();
+    jespurla_dhcid dhcid = some_dhcid();
+    jespurla_address address = some_address();
+    uint8_t family = some_family();
+    jespurla_new_job made = which == NEW_ADD
+        ? jespurla_new_add(name, dhcid, family, address, some_policy())
+        : jespurla_new_remove(name, dhcid, family, address);
+
+    tally_count(which, made.refusal, made.job.stage, listed);
+    if (made.refusal != 0)
+        must(memcmp(&made.job, &zeros, sizeof zeros) == 0, "a refused job is not of zeros");
+    else
+        jobs[random_below(JOBS)] = made.job;
+}
+
+/* One of the jobs, at times with its numbers or a few octets changed. */
+static jespurla_job some_job(size_t at)
+{
+    jespurla_job job = jobs[at];
+    if (one_in(16))
+        job.stage = (uint8_t)random_below(17);
+    if (one_in(16))
+        job.count = (uint8_t)random_below(8);
+    if (one_in(32))
+        damage_octets(&job, sizeof job);
+    if (one_in(64))
+        random_fill(&job, sizeof job);
+    return job;
+}
+
+static void turn_step(void)
+{
+    static jespurla_stepped stepped;
+    size_t at = random_below(JOBS);
+    const jespurla_zone *zone = some_zone();
+    jespurla_job job = some_job(at);
+
+    stepped = jespurla_job_step(*zone, job);
+    tally_count(JOB_STEP, stepped.refusal, stepped.job.stage, zone_refusals);
+    if (stepped.refusal != 0) {
+        must(memcmp(&stepped.job, &job, sizeof job) == 0, "a refused job comes back changed");
+        must(memcmp(&stepped.zone, zone, sizeof *zone) == 0, "a refused zone comes back changed");
+        return;
+    }
+    jobs[at] = stepped.job;
+    leave_zone(&stepped.zone);
+}
+
+void turn_jobs(void)
+{
+    turn_new(NEW_ADD);
+    turn_new(NEW_REMOVE);
+    turn_step();
+    turn_step();
+}

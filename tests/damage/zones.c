@@ -1,0 +1,113 @@
+/* The zone check and the four requests. */
+#include "damage.h"
+
+#include <string.h>
+
+const uint32_t zone_refusals[] = { 17, 18, 11, 0 };
+
+static jespurla_zone sound, given;
+
+/* Names beside those that the requests name, so that the zone is at times full. */
+static void fill_zone(size_t count)
+{
+    memset(&sound, 0, sizeof sound);
+    for (size_t i = 0; i < count; i++) {
+        jespurla_entry *entry = &sound.entries[i];
+        const uint8_t octets[] = { 5, 'f', 'i', 'l', 'l', (uint8_t)('0' + i), 0 };
+        random_fill(entry, sizeof *entry);
+        entry->kind = one_in(4) ? JESPURLA_STATIC : JESPURLA_HELD;
+        memcpy(entry->name.octets, octets, sizeof octets);
+        entry->name.length = sizeof octets;
+        entry->v4.count = (uint8_t)random_below(2);
+        entry->v6.count = (uint8_t)random_below(2);
+    }
+}
+
+/* Changes a zone a little: octets of one entry, an entry's kind, or an entry put in twice. */
+static void spoil_zone(jespurla_zone *zone)
+{
+    jespurla_entry *entry = &zone->entries[random_below(one_in(2) ? 4 : 64)];
+    size_t way = random_below(3);
+    if (way == 0)
+        damage_octets(entry, sizeof *entry);
+    else if (way == 1)
+        entry->kind = (uint8_t)random_below(4);
+    else
+        zone->entries[random_below(64)] = *entry;
+}
+
+/* The zone held, at times with a few octets changed, seldom drawn whole. */
+const jespurla_zone *some_zone(void)
+{
+    if (one_in(300))
+        fill_zone(one_in(2) ? 60 + random_below(5) : random_below(4));
+    given = sound;
+    if (one_in(6))
+        spoil_zone(&given);
+    if (one_in(128))
+        random_fill(&given, sizeof given);
+    return &given;
+}
+
+/* The refusal that a request would get. */
+static uint32_t check(const jespurla_zone *zone, const jespurla_name *name, uint8_t family,
+                      uint8_t policy)
+{
+    uint32_t refusal = jespurla_zone_check(*zone, *name, family, policy);
+    tally_count(ZONE_CHECK, refusal, 0, zone_refusals);
+    return refusal;
+}
+
+void leave_zone(const jespurla_zone *zone)
+{
+    static const jespurla_name full = { .octets = "\1a", .length = 3 };
+    must(check(zone, &full, 4, 0) == 0, "a zone of no form was left");
+    sound = *zone;
+}
+
+/* One of the four requests. */
+static jespurla_answered send(call which, jespurla_name name, uint8_t family, uint8_t policy)
+{
+    jespurla_dhcid dhcid = some_dhcid();
+    jespurla_address address = some_address();
+    switch (which) {
+    case REQUEST_A: return jespurla_request_a(given, name, dhcid, family, address);
+    case REQUEST_B: return jespurla_request_b(given, name, dhcid, family, address, policy);
+    case REMOVE_ADDRESS:
+        return jespurla_request_remove_address(given, name, dhcid, family, address);
+    default: return jespurla_request_remove_name(given, name, dhcid, family, address);
+    }
+}
+
+static bool is_answer(uint32_t answer)
+{
+    return answer == JESPURLA_NOERROR || answer == JESPURLA_NXDOMAIN || answer == JESPURLA_YXDOMAIN ||
+           answer == JESPURLA_NXRRSET || answer == JESPURLA_NO_ROOM;
+}
+
+static void turn_request(call which)
+{
+    static jespurla_answered answered;
+    const jespurla_zone *zone = some_zone();
+    jespurla_name name = some_zone_name();
+    uint8_t family = some_family(), policy = which == REQUEST_B ? some_policy() : 0;
+
+    answered = send(which, name, family, policy);
+    tally_count(which, answered.refusal, answered.answer, zone_refusals);
+    must(check(zone, &name, family, policy) == answered.refusal, "check and request disagree");
+    if (answered.refusal != 0) {
+        must(answered.answer == 0, "an answer beside a refusal");
+        must(memcmp(&answered.zone, zone, sizeof *zone) == 0, "a refused zone comes back changed");
+        return;
+    }
+    must(is_answer(answered.answer), "no such answer");
+    leave_zone(&answered.zone);
+}
+
+void turn_zones(void)
+{
+    turn_request(REQUEST_A);
+    turn_request(REQUEST_B);
+    turn_request(REMOVE_ADDRESS);
+    turn_request(REMOVE_NAME);
+}
