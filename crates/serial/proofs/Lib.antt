@@ -1,6 +1,5 @@
 -- The proof of demand 3, from the zone's laws and the rules of jobs up.
 pub mod ListLaws
-pub mod HostLaws
 pub mod RequestLaws
 pub mod StageLaws
 pub mod OrderLaws

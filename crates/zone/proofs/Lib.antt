@@ -3,6 +3,7 @@ pub mod PrintLaws
 pub mod SurveyLaws
 pub mod HostLaws
 pub mod ZoneLaws
+pub mod BareLaws
 pub mod PlaceLaws
 pub mod DecideLaws
 pub mod PromiseLaws
