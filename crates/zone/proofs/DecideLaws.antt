@@ -18,9 +18,9 @@ use Rattle.zone.specs.declared.survey.Survey.{Survey}
 use Rattle.zone.specs.declared.decide.Change.{Change}
 use Rattle.zone.specs.Zone as rules
 use Rattle.zone.specs.Zone.{Host, Update, put, Answer, success, YXDOMAIN, NXDOMAIN, NXRRSET, noRoom, Outcome, says, heldBy, empty, address, newHost, left, fits, requestA, requestB, removeAddress, removeName}
-use Rattle.zone.specs.Meaning.{nameOf, isFull, used, keyOf, hostOf, keys, zoneOf, inOrder, allInOrder, formed, listed, policyOf, updateOf, requestOf}
+use Rattle.zone.specs.Meaning.{nameOf, isFull, used, keyOf, hostOf, keys, zoneOf, inOrder, allInOrder, formed, listed, policyOf, updateOf}
 use Rattle.zone.specs.Promise.{numberOf, refusalOf, Promised}
-use Rattle.zone.specs.Survey.{Found, changed, Decided, Decides, Kept, Fresh, About, Joined, Parted, HasRoom}
+use Rattle.zone.specs.Survey.{requestOf, Found, changed, Decided, Decides, Kept, Fresh, About, Joined, Parted, HasRoom}
 use Rattle.zone.proofs.SurveyLaws.{blank}
 use Rattle.zone.proofs.HostLaws.{about}
 use Rattle.zone.proofs.ZoneLaws.{A-new, A-full, A-there, B-absent, B-other, B-full, B-done, remove-address-absent, remove-address-other, remove-address-own, remove-name-absent, remove-name-kept, remove-name-gone}

@@ -18,8 +18,8 @@ use Rattle.zone.specs.declared.request.Answered.{Answered}
 use Rattle.zone.specs.Zone as rules
 use Rattle.zone.specs.Zone.{Outcome}
 use Rattle.zone.specs.Meaning.{isFull, keys, zoneOf, allInOrder, formed, listed}
-use Rattle.zone.specs.Promise.{numberOf, refusalOf, written, settled, Promised}
-use Rattle.zone.specs.Survey.{Found, changed, Decided, Decides}
+use Rattle.zone.specs.Promise.{numberOf, refusalOf, Promised}
+use Rattle.zone.specs.Survey.{Found, written, settled, changed, Decided, Decides}
 
 -- ---- numbers that are listed
 

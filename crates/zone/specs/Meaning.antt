@@ -18,7 +18,7 @@ use Rattle.zone.specs.declared.entry.Dhcid.{Dhcid}
 use Rattle.zone.specs.declared.entry.Entry.{Entry}
 use Rattle.zone.specs.declared.survey.Zone.{Zone}
 use Rattle.zone.specs.Zone as rules
-use Rattle.zone.specs.Zone.{Host, Update, Policy, keepOthers, oneOfFamily, onlyThis, Outcome, says, success, requestA, requestB, removeAddress, removeName}
+use Rattle.zone.specs.Zone.{Host, Update, Policy, keepOthers, oneOfFamily, onlyThis}
 
 -- A name: as many of its octets as its length says.
 abbrev pub nameOf : Name → Octets
@@ -92,8 +92,3 @@ addressOf six a = a .octets
 
 unfoldable pub updateOf : Name → Dhcid → ℕ → Address → Update
 updateOf n d family a = record { name = nameOf n; dhcid = d .octets; family = familyOf family; address = addressOf (familyOf family) a }
-
--- What is sent, by number: nothing for 0, request A for 1, request B for 2, the first remove request for 3, the second for any other.
-unfoldable pub requestOf : ℕ → ℕ → Update → rules.Zone → Outcome
-requestOf kind policy u z =
-    cond (eqb kind 0) (says success z) (cond (eqb kind 1) (requestA u z) (cond (eqb kind 2) (requestB (policyOf policy) u z) (cond (eqb kind 3) (removeAddress u z) (removeName u z))))

@@ -3,12 +3,9 @@ use mathlib.Core.Path.{_≡_}
 use mathlib.Core.Bool.{Bool, true, false, cond}
 use Prim.Native.Nat.{ℕ}
 use lib.Dec.{eqb}
-use lib.ListN.{set}
 use Rattle.hosts.specs.Count.{Octets}
 use Rattle.zone.specs.declared.survey.Zone.{Zone}
-use Rattle.zone.specs.declared.entry.Entry.{Entry}
 use Rattle.zone.specs.declared.request.Answered.{Answered}
-use Rattle.zone.specs.declared.request.Effect.{Effect}
 use Rattle.zone.specs.Zone.{Answer, success, YXDOMAIN, NXDOMAIN, NXRRSET, noRoom, Outcome}
 use Rattle.zone.specs.Meaning.{zoneOf, formed, listed, isFull}
 
@@ -23,13 +20,6 @@ numberOf NXDOMAIN = 3
 numberOf YXDOMAIN = 6
 numberOf NXRRSET = 8
 numberOf noRoom = 256
-
--- The zone with one place written, or as it is where there is no such place; and what an effect on a zone comes to.
-abbrev pub written : Zone → ℕ → Entry → Zone
-written z place e = record { entries = set (z .entries) place e }
-
-abbrev pub settled : Zone → Effect → Answered
-settled z w = record { refusal = w .refusal; answer = w .answer; zone = written z (w .place) (w .entry) }
 
 -- A request on the zone z, its refusal, and what the rules give where there is none. A refused request hands back the very same zone
 -- and 0 for an answer; any other the rules' answer, and a zone of good form that is the rules', at whichever places its names stand.

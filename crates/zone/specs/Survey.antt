@@ -4,7 +4,7 @@ use mathlib.Core.Bool.{Bool, true, false, cond, not, _&&_, _||_}
 use mathlib.Core.List.{List, [], _∷_}
 use Prim.Native.Nat.{ℕ, zero, suc, _+_, _*_, _/_, _%_, _<_}
 use lib.Dec.{eqb}
-use lib.ListN.{length, getD}
+use lib.ListN.{length, getD, set}
 use Rattle.octets.specs.Number.{numberAt}
 use Rattle.dname.specs.Name.{key, sameName}
 use Rattle.hosts.specs.Count.{Octets, distinct}
@@ -15,10 +15,12 @@ use Rattle.zone.specs.declared.entry.Entry.{Entry}
 use Rattle.zone.specs.declared.survey.Zone.{Zone}
 use Rattle.zone.specs.declared.survey.Survey.{Survey}
 use Rattle.zone.specs.declared.decide.Change.{Change}
+use Rattle.zone.specs.declared.request.Answered.{Answered}
+use Rattle.zone.specs.declared.request.Effect.{Effect}
 use Rattle.zone.specs.Zone as rules
-use Rattle.zone.specs.Zone.{Host, Update, address, fits, Outcome}
-use Rattle.zone.specs.Meaning.{nameOf, hostOf, used, inOrder, keyOf, keys, allInOrder, zoneOf, formed, familyOf, addressOf}
-use Rattle.zone.specs.Promise.{numberOf, refusalOf, written}
+use Rattle.zone.specs.Zone.{Host, Update, address, fits, Outcome, says, success, requestA, requestB, removeAddress, removeName}
+use Rattle.zone.specs.Meaning.{nameOf, hostOf, used, inOrder, keyOf, keys, allInOrder, zoneOf, formed, familyOf, policyOf, addressOf}
+use Rattle.zone.specs.Promise.{numberOf, refusalOf}
 
 -- ---- fingerprints: equal names have equal ones
 
@@ -72,7 +74,19 @@ pub record Surveyed (z : Zone) (n : Octets) (s : Survey) : Type 0 where
 pub record Refuses (n : Octets) (family policy : ℕ) (s : Survey) (r : ℕ) : Type 0 where
   pub refuses : (z : Zone) → Surveyed z n s → r ≡ refusalOf z n family policy
 
--- ---- what a request comes to: an answer, and one place written, or none where it says 64
+-- ---- the requests by number: nothing for 0, request A for 1, request B for 2, the first remove request for 3, the second for any other
+
+unfoldable pub requestOf : ℕ → ℕ → Update → rules.Zone → Outcome
+requestOf kind policy u z =
+    cond (eqb kind 0) (says success z) (cond (eqb kind 1) (requestA u z) (cond (eqb kind 2) (requestB (policyOf policy) u z) (cond (eqb kind 3) (removeAddress u z) (removeName u z))))
+
+-- ---- what a request comes to: an answer, and one place written, or none where there is no such place
+
+abbrev pub written : Zone → ℕ → Entry → Zone
+written z place e = record { entries = set (z .entries) place e }
+
+abbrev pub settled : Zone → Effect → Answered
+settled z w = record { refusal = w .refusal; answer = w .answer; zone = written z (w .place) (w .entry) }
 
 abbrev pub changed : Zone → Change → Zone
 changed z w = written z (w .place) (w .entry)

@@ -14,13 +14,13 @@ ghost use mathlib.Core.Path.{_≡_};
 ghost use mathlib.Core.Bool.{true};
 ghost use Prim.Native.Nat.{_<_};
 ghost use Rattle.zone.specs.Zone.{requestA, requestB, removeAddress, removeName};
-ghost use Rattle.zone.specs.Meaning.{nameOf, isFull, inOrder, listed, policyOf, updateOf, requestOf, zoneOf};
-ghost use Rattle.zone.specs.Promise.{refusalOf, written as writtenAt, settled, Promised};
-ghost use Rattle.zone.specs.Survey.{Decides, Refuses};
+ghost use Rattle.zone.specs.Meaning.{nameOf, isFull, inOrder, listed, policyOf, updateOf, zoneOf};
+ghost use Rattle.zone.specs.Promise.{refusalOf, Promised};
+ghost use Rattle.zone.specs.Survey.{requestOf, written as writtenAt, settled, Decides, Refuses};
 
 // What is sent. kind: 0 nothing, 1 request A, 2 request B, 3 the first remove request, any other the
 // second. policy: of request B; 0 where there is none.
-pub struct Request {
+pub(crate) struct Request {
     pub kind: u8,
     pub family: u8,
     pub policy: u8,
@@ -31,7 +31,7 @@ pub struct Request {
 
 // What a request comes to: the refusal, 0 where there is none, the answer, and one place to write;
 // none where it says 64.
-pub struct Effect {
+pub(crate) struct Effect {
     pub refusal: u32,
     pub answer: u32,
     pub place: usize,
@@ -100,7 +100,7 @@ fn change_of(s: Survey, q: Request) -> Change
 }
 
 // What a request on a zone comes to, before a place is written.
-pub fn effect_of(zone: Zone, q: Request) -> Effect
+fn effect_of(zone: Zone, q: Request) -> Effect
     ensures { λ r. ⌜ Promised zone (refusalOf zone (nameOf (q .name)) (q .family) (q .policy)) (requestOf (q .kind) (q .policy) (updateOf (q .name) (q .dhcid) (q .family) (q .address)) (zoneOf zone)) (settled zone r) ⌝ }
 {
     let n = q.name;
@@ -126,7 +126,7 @@ pub fn effect_of(zone: Zone, q: Request) -> Effect
 }
 
 // The zone with one place written, or as it is where there is no such place.
-pub fn written(zone: Zone, place: usize, entry: Entry) -> Zone
+fn written(zone: Zone, place: usize, entry: Entry) -> Zone
     ensures { λ r. ⌜ r ≡ writtenAt zone place entry ⌝ }
 {
     let mut z = zone;

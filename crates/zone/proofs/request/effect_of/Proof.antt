@@ -1,4 +1,5 @@
-use Rattle.zone.specs.Meaning.{nameOf, updateOf, requestOf}
+use Rattle.zone.specs.Meaning.{nameOf, updateOf}
+use Rattle.zone.specs.Survey.{requestOf}
 use Rattle.zone.proofs.DecideLaws.{entry-order}
 use Rattle.zone.proofs.PromiseLaws.{passed, promise-refused, promise-done}
 use borrow.Author.Needs.{needs}

@@ -1,6 +1,7 @@
 use mathlib.Core.Path.{_≡_, refl}
 use Rattle.zone.specs.Zone.{removeName}
-use Rattle.zone.specs.Meaning.{nameOf, updateOf, requestOf}
+use Rattle.zone.specs.Meaning.{nameOf, updateOf}
+use Rattle.zone.specs.Survey.{requestOf}
 use Rattle.zone.proofs.PromiseLaws.{promise-same}
 use borrow.Author.Needs.{needs}
 use Rattle.zone.proofs.request.jespurla_request_remove_name.Statement.{statement}
