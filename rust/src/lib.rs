@@ -41,7 +41,7 @@ pub use calls::{
 };
 pub use job::*;
 pub use lease::*;
-pub use moment::Moment;
+pub use moment::{Moment, Span};
 pub use refusal::{Number, Refusal};
 pub use server_list::*;
 pub use zone::*;
