@@ -402,7 +402,6 @@ module _ (TR : Declared) (LR : LL.Laws TR) (CR : LL.Copyables (TR .parts)) (PR :
             ∷ ‵ (fat fullShare slice l₁ 0 (sliceVal (b, o) (length ys))) ∷ ‵ (fdies slice l₁) ∷ ‵ (froom τS l₀ 0) ∷ ‵ (fdies τS l₀) ∷ (‵ (flft κ q) ⊛ ‵ ftrue) ∷ ‵ (owns (ShrSlice (named 0) κ R ∷ S ∷ []) given vals) ∷ []
 
         begun : (r : Bool) → r ≡ off a → Sq W (Begun r) (runs (𝓣 .C) (𝓣 .Λ) Ev (seq (condᴹ (copy (place 6 [])) outright skipᴹ) looks) (atRet Ev Post))
-        unfolding afterSeq
         begun r e = first ! $ branches ! (load ! (from ! (stop !)) (look ! 10 refl)) yes-arm no-arm
           where
             yes-arm : Holds r → Sq W (Begun r) (runs (𝓣 .C) (𝓣 .Λ) Ev outright (anyQ (afterSeq 𝓤 H (Wp 𝓤 H (𝓣 .C) (𝓣 .Λ) Ev looks (atReturn 𝓤 H Ev Post)) (atReturn 𝓤 H Ev Post))))
