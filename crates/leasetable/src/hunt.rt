@@ -1,15 +1,15 @@
 // The leases of a table that a query by client is about: the first four ranks.
-use crate::client;
 use crate::client::Key;
 use clock::Moment;
 use lease::Lease;
 use lease::Rank;
+use lease::key;
 use lease::order;
 ghost use mathlib.Core.Path.{_≡_};
 ghost use mathlib.Core.Bool.{cond};
 ghost use mathlib.Core.List.{foldl};
 ghost use Prim.Native.Nat.{_+_, _≤_, min};
-ghost use Rattle.leasetable.specs.Folds.{inserted, huntOff, huntWants, huntAdd, huntTurn};
+ghost use Rattle.leasetable.specs.Folds.{clientHas, inserted, huntOff, huntWants, huntAdd, huntTurn};
 
 // What was found among the records passed: the ranks of the first four active leases of the client.
 pub struct Hunt {
@@ -29,13 +29,33 @@ fn is_off(h: Hunt) -> bool
     key.kind < 2
 }
 
-// Whether a record is to be noted: an active lease of the client.
+// Whether a lease has a client's key. Each scan has this for itself: called from two, it would stay a
+// call, with a copy of its arguments for every record.
+fn has_client(k: Key, x: Lease) -> bool
+    ensures { λ r. ⌜ r ≡ clientHas k x ⌝ }
+{
+    if k.kind == 2 {
+        let octets = k.octets;
+        return key::has_hardware(x, k.htype, k.len, octets);
+    }
+    if k.kind == 3 {
+        let octets = k.octets;
+        return key::has_client_id(x, k.len, octets);
+    }
+    false
+}
+
+// Whether a record is to be noted: an active lease of the client. Few have the key, so that is asked
+// first.
 fn does_want(h: Hunt, x: Lease) -> bool
     ensures { λ r. ⌜ r ≡ huntWants h x ⌝ }
 {
+    let k = h.key;
+    if !has_client(k, x) {
+        return false;
+    }
     let clock = h.clock;
-    let key = h.key;
-    client::is_lease_of(clock, key, x)
+    key::is_active(x, clock)
 }
 
 // A rank is put in its place among those kept, and of 5 the last is dropped.

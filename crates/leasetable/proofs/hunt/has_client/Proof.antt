@@ -2,8 +2,8 @@ use borrow.Author.Tests.{eq-eqb, ne-eqb, le-leb, lt-leb, lt-ltb, le-ltb, not-tru
 use mathlib.Core.Path.{_≡_, sym, _∙_, ap, refl}
 use Rattle.leasetable.specs.Folds.{clientHas}
 use borrow.Author.Needs.{needs}
-use Rattle.leasetable.proofs.client.has_client.Statement.{statement}
-use Rattle.leasetable.proofs.client.has_client.Tie as tie
+use Rattle.leasetable.proofs.hunt.has_client.Statement.{statement}
+use Rattle.leasetable.proofs.hunt.has_client.Tie as tie
 
 has-hardware-requires : tie.Need-has-hardware-requires
 has-hardware-requires c κs = search needs
