@@ -25,29 +25,3 @@ module _ (s : List ℕ) (i : ℕ) (h : i < length s) where
 pub zero-end : (s : List ℕ) (i : ℕ) → length s ≤ i → allZero (drop i s) ≡ true
 unfolding allZero
 zero-end s i h = ap allZero (drop-of-length-le s h)
-
--- ---- zeros by their sum
-total : List ℕ → ℕ
-total [] = 0
-total (x ∷ xs) = x + total xs
-
-bcase : {A : Type 0} (b : Bool) → (b ≡ true → A) → (b ≡ false → A) → A
-bcase true f g = f refl
-bcase false f g = g refl
-
-total-zero : (l : List ℕ) → eqb (total l) 0 ≡ allZero l
-unfolding allZero total
-total-zero [] = refl
-total-zero (x ∷ xs) =
-    bcase (eqb x 0)
-    (λ e. let z : x + total xs ≡ total xs = omega (arith, eqb-true x 0 e) in rw (e, z) (total-zero xs))
-    (λ e. rw e (ne-eqb (x + total xs) 0 (λ q. eqb-false x 0 e (omega (arith, q)))))
-
-pub tail-of-6 : (s : List ℕ) (t : ℕ) → length s ≡ 16
-    → t ≡ getD s 6 0 + getD s 7 0 + getD s 8 0 + getD s 9 0 + getD s 10 0 + (getD s 11 0 + getD s 12 0 + getD s 13 0 + getD s 14 0 + getD s 15 0) → eqb t 0 ≡ allZero (drop 6 s)
-unfolding total
-tail-of-6 s t n e =
-    let d : drop 6 s ≡ getD s 6 0 ∷ getD s 7 0 ∷ getD s 8 0 ∷ getD s 9 0 ∷ getD s 10 0 ∷ getD s 11 0 ∷ getD s 12 0 ∷ getD s 13 0 ∷ getD s 14 0 ∷ getD s 15 0 ∷ [] =
-    rw (drop-cons s 6 0 (omega arith), drop-cons s 7 0 (omega arith), drop-cons s 8 0 (omega arith), drop-cons s 9 0 (omega arith), drop-cons s 10 0 (omega arith), drop-cons s 11 0 (omega arith), drop-cons s 12 0 (omega arith), drop-cons s 13 0 (omega arith), drop-cons s 14 0 (omega arith), drop-cons s 15 0 (omega arith), drop-of-length-le s (let h : length s ≤ 16 = omega arith in h)) in
-    let k : t ≡ total (drop 6 s) = e ∙ (let v : getD s 6 0 + getD s 7 0 + getD s 8 0 + getD s 9 0 + getD s 10 0 + (getD s 11 0 + getD s 12 0 + getD s 13 0 + getD s 14 0 + getD s 15 0) ≡ total (getD s 6 0 ∷ getD s 7 0 ∷ getD s 8 0 ∷ getD s 9 0 ∷ getD s 10 0 ∷ getD s 11 0 ∷ getD s 12 0 ∷ getD s 13 0 ∷ getD s 14 0 ∷ getD s 15 0 ∷ []) = omega arith in v) ∙ sym (ap total d) in
-    ap (λ (m : ℕ). eqb m 0) k ∙ total-zero (drop 6 s)

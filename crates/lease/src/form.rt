@@ -1,5 +1,6 @@
 // The form that a lease must have in the table, but for the order of the addresses.
 use crate::Lease;
+use crate::lead;
 use clock::Moment;
 ghost use mathlib.Core.Path.{_≡_};
 ghost use lib.ListN.{drop};
@@ -23,21 +24,15 @@ fn is_zero_from(s: &[u8], from: usize) -> bool
     ok
 }
 
-// An octet as a number that can be added to others.
-fn wide(x: u8) -> u32
-    ensures { λ r. ⌜ (r ≡ x) × (r < 256) ⌝ }
-{
-    x as u32
-}
-
-// Whether all octets behind the first six are zero. Six is the usual length, and constant places
-// compile to fewer steps than a loop.
+// Whether all octets behind the first six are zero. Six is the usual length, and as numbers the
+// octets are compared in two steps.
 fn is_zero_from_6(s: [u8; 16]) -> bool
     ensures { λ r. ⌜ r ≡ allZero (drop 6 s) ⌝ }
 {
-    let a = wide(s[6]) + wide(s[7]) + wide(s[8]) + wide(s[9]) + wide(s[10]);
-    let b = wide(s[11]) + wide(s[12]) + wide(s[13]) + wide(s[14]) + wide(s[15]);
-    a + b == 0
+    if lead::eight(s[8], s[9], s[10], s[11], s[12], s[13], s[14], s[15]) != 0 {
+        return false;
+    }
+    lead::four(s[6], s[7], 0, 0) == 0
 }
 
 // A hardware address has at most 16 octets, with zeros behind them; one of none has type 0.

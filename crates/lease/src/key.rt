@@ -1,5 +1,6 @@
 // Whether a lease is active, and the keys it has.
 use crate::Lease;
+use crate::lead;
 use clock::Moment;
 use octets::compare;
 ghost use mathlib.Core.Path.{_≡_};
@@ -20,8 +21,8 @@ pub fn is_active(x: Lease, clock: Moment) -> bool
     clock::is_ahead(expiry, clock)
 }
 
-// Whether the first n octets agree, n being at most 16.
-fn do_16_agree(n: u8, a: [u8; 16], b: [u8; 64]) -> bool
+// Whether the first n octets agree, n being at most 16, one by one.
+fn do_16_match(n: u8, a: [u8; 16], b: [u8; 64]) -> bool
     ensures { λ r. ⌜ r ≡ (leb n 16 && sameOctets (take n a) (take n b)) ⌝ }
 {
     if 16 < n {
@@ -31,8 +32,8 @@ fn do_16_agree(n: u8, a: [u8; 16], b: [u8; 64]) -> bool
     compare::same(&a[..m], &b[..m])
 }
 
-// Whether the first n octets agree, n being at most 64.
-fn do_64_agree(n: u8, a: [u8; 64], b: [u8; 64]) -> bool
+// Whether the first n octets agree, n being at most 64, one by one.
+fn do_64_match(n: u8, a: [u8; 64], b: [u8; 64]) -> bool
     ensures { λ r. ⌜ r ≡ (leb n 64 && sameOctets (take n a) (take n b)) ⌝ }
 {
     if 64 < n {
@@ -40,6 +41,27 @@ fn do_64_agree(n: u8, a: [u8; 64], b: [u8; 64]) -> bool
     }
     let m = n as usize;
     compare::same(&a[..m], &b[..m])
+}
+
+// Whether the first n octets agree, n being at most 16. The first eight are compared as numbers, which
+// is all that most keys need to differ.
+fn do_16_agree(n: u8, a: [u8; 16], b: [u8; 64]) -> bool
+    ensures { λ r. ⌜ r ≡ (leb n 16 && sameOctets (take n a) (take n b)) ⌝ }
+{
+    if lead::lead_16(n, a) != lead::lead_64(n, b) {
+        return false;
+    }
+    do_16_match(n, a, b)
+}
+
+// The same, n being at most 64.
+fn do_64_agree(n: u8, a: [u8; 64], b: [u8; 64]) -> bool
+    ensures { λ r. ⌜ r ≡ (leb n 64 && sameOctets (take n a) (take n b)) ⌝ }
+{
+    if lead::lead_64(n, a) != lead::lead_64(n, b) {
+        return false;
+    }
+    do_64_match(n, a, b)
 }
 
 // Whether a lease has a hardware address: a type and the first n of some octets.

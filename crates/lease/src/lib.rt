@@ -3,6 +3,7 @@ use clock::Moment;
 
 pub mod form;
 pub mod key;
+pub mod lead;
 pub mod order;
 
 // A lease. The octets of `id` and `relay` past their lengths are not looked at.
@@ -28,8 +29,9 @@ pub struct Lease {
     pub relaylen: u8,
 }
 
-// What a lease is ranked by.
+// What a lease is ranked by. The address has eight octets, so that an array of ranks has no gaps and
+// is copied in one piece.
 pub struct Rank {
     pub last: Moment,
-    pub address: u32,
+    pub address: u64,
 }

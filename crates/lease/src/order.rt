@@ -11,7 +11,7 @@ pub fn rank_of(x: Lease) -> Rank
     let last = x.last;
     Rank {
         last,
-        address: x.address,
+        address: x.address as u64,
     }
 }
 

@@ -12,7 +12,7 @@ use Rattle.octets.specs.Write.{laid, Laid}
 use Rattle.octets.proofs.WriteLaws.{written, put-front, laid-nothing}
 use Rattle.lease.specs.Lease.{activeAt}
 use Rattle.leasepacket.specs.Query.{part}
-use Rattle.leasetable.specs.declared.hunt.Hunt.{Hunt}
+use Rattle.leasetable.specs.declared.look.Found.{Found}
 use Rattle.leasequery.specs.Answer.{Outcome, refusal}
 use Rattle.leasequery.specs.Stages.{padded, idKey, otherOf, activeOf, concluded}
 
@@ -56,25 +56,25 @@ padded-written {ys} {l} {n} o e h w =
     written w .fit (omega arith) .list ∙ put-front (replicate 64 0) ys ∙ ap (λ (v : List ℕ). laid v (replicate 64 0)) e ∙ sym (padded-laid o h)
 
 -- ---- the conclusion, by each way out of it
-module _ (h : Hunt) (server : ℕ) (query buffer : List ℕ) where
+module _ (h : Found) (server : ℕ) (query buffer : List ℕ) where
   pub con-refused : (h .refusal ≡ 0 → ⊥) → concluded h server query buffer ≡ refusal (h .refusal)
   unfolding concluded
   con-refused r = rw (ne-eqb (h .refusal) 0 r)
 
   module _ (r : h .refusal ≡ 0) where
-    pub con-unknown : h .kept ≡ 0 → concluded h server query buffer ≡ otherOf 12 server query buffer
+    pub con-unknown : h .best .address ≡ 0 → concluded h server query buffer ≡ otherOf 12 server query buffer
     unfolding concluded
-    con-unknown k = rw (eq-eqb (h .refusal) 0 r, eq-eqb (h .kept) 0 k)
+    con-unknown k = rw (eq-eqb (h .refusal) 0 r, eq-eqb (h .best .address) 0 k)
 
-    module _ (k : h .kept ≡ 0 → ⊥) where
-      pub con-client : (h .key .kind ≡ 1 → ⊥) → concluded h server query buffer ≡ activeOf h (h .kept) server query buffer
+    module _ (k : h .best .address ≡ 0 → ⊥) where
+      pub con-client : (h .kind ≡ 1 → ⊥) → concluded h server query buffer ≡ activeOf h (h .kept) server query buffer
       unfolding concluded
-      con-client n = rw (eq-eqb (h .refusal) 0 r, ne-eqb (h .kept) 0 k, ne-eqb (h .key .kind) 1 n)
+      con-client n = rw (eq-eqb (h .refusal) 0 r, ne-eqb (h .best .address) 0 k, ne-eqb (h .kind) 1 n)
 
-      pub con-active : h .key .kind ≡ 1 → activeAt (h .clock) (h .best) ≡ true → concluded h server query buffer ≡ activeOf h 0 server query buffer
+      pub con-active : h .kind ≡ 1 → activeAt (h .clock) (h .best) ≡ true → concluded h server query buffer ≡ activeOf h 0 server query buffer
       unfolding concluded
-      con-active n a = rw (eq-eqb (h .refusal) 0 r, ne-eqb (h .kept) 0 k, eq-eqb (h .key .kind) 1 n, a)
+      con-active n a = rw (eq-eqb (h .refusal) 0 r, ne-eqb (h .best .address) 0 k, eq-eqb (h .kind) 1 n, a)
 
-      pub con-unassigned : h .key .kind ≡ 1 → activeAt (h .clock) (h .best) ≡ false → concluded h server query buffer ≡ otherOf 11 server query buffer
+      pub con-unassigned : h .kind ≡ 1 → activeAt (h .clock) (h .best) ≡ false → concluded h server query buffer ≡ otherOf 11 server query buffer
       unfolding concluded
-      con-unassigned n a = rw (eq-eqb (h .refusal) 0 r, ne-eqb (h .kept) 0 k, eq-eqb (h .key .kind) 1 n, a)
+      con-unassigned n a = rw (eq-eqb (h .refusal) 0 r, ne-eqb (h .best .address) 0 k, eq-eqb (h .kind) 1 n, a)

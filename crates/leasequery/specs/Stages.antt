@@ -5,14 +5,14 @@ use mathlib.Core.List.{List, [], _∷_}
 use lib.Dec.{ltb, eqb}
 use lib.ListN.{length, replicate}
 use Rattle.clock.specs.declared.Moment.{Moment}
-use Rattle.clock.specs.Clock.{moment, isMoment}
+use Rattle.clock.specs.Clock.{isMoment}
 use Rattle.octets.specs.Write.{laid}
-use Rattle.lease.specs.declared.Lease.{Lease}
-use Rattle.lease.specs.declared.Rank.{Rank}
-use Rattle.lease.specs.Lease.{activeAt, noLease}
+use Rattle.lease.specs.Lease.{activeAt}
 use Rattle.leasepacket.specs.Query.{Asked, refused, byAddress, byHardware, byClientId, asking}
-use Rattle.leasetable.specs.declared.hunt.Key.{Key}
+use Rattle.leasetable.specs.declared.client.Key.{Key}
 use Rattle.leasetable.specs.declared.hunt.Hunt.{Hunt}
+use Rattle.leasetable.specs.declared.look.Found.{Found}
+use Rattle.leasetable.specs.Folds.{noRank}
 use Rattle.leasereply.specs.Reply.{otherReply, activeReply, listed, fitting}
 use Rattle.leasequery.specs.Answer.{Outcome, refusal, reply}
 
@@ -46,8 +46,7 @@ huntStart clock n key =
       clock = clock;
       key = key;
       kept = 0;
-      best = noLease;
-      ranks = replicate 63 (record { last = moment 0; address = 0 });
+      ranks = replicate 4 noRank;
     }
 
 unfoldable pub askedAt : Moment → Bool → List ℕ → ℕ → Asked
@@ -59,12 +58,12 @@ askedAt clock ok query room =
 abbrev pub otherOf : ℕ → ℕ → List ℕ → List ℕ → Outcome
 otherOf kind server query buffer = reply kind (fitting query buffer (otherReply kind server query))
 
-abbrev pub activeOf : Hunt → ℕ → ℕ → List ℕ → List ℕ → Outcome
+abbrev pub activeOf : Found → ℕ → ℕ → List ℕ → List ℕ → Outcome
 activeOf h n server query buffer = reply 13 (fitting query buffer (activeReply (h .clock) server query (h .best) (listed n (h .ranks))))
 
-unfoldable pub concluded : Hunt → ℕ → List ℕ → List ℕ → Outcome
+unfoldable pub concluded : Found → ℕ → List ℕ → List ℕ → Outcome
 concluded h server query buffer =
     cond (not (eqb (h .refusal) 0)) (refusal (h .refusal))
-    (cond (eqb (h .kept) 0) (otherOf 12 server query buffer)
-    (cond (not (eqb (h .key .kind) 1)) (activeOf h (h .kept) server query buffer)
+    (cond (eqb (h .best .address) 0) (otherOf 12 server query buffer)
+    (cond (not (eqb (h .kind) 1)) (activeOf h (h .kept) server query buffer)
     (cond (activeAt (h .clock) (h .best)) (activeOf h 0 server query buffer) (otherOf 11 server query buffer))))

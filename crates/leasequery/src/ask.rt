@@ -1,14 +1,15 @@
 // What a query has looked for in the table, or the refusal because of which nothing is looked for.
 use clock::Moment;
-use lease::Lease;
 use lease::Rank;
 use leasepacket::query;
 use leasepacket::query::Query;
+use leasetable::client::Key;
 use leasetable::form::Form;
 use leasetable::hunt::Hunt;
-use leasetable::hunt::Key;
 use octets::write;
 ghost use mathlib.Core.Path.{_≡_};
+ghost use mathlib.Core.Bool.{_&&_};
+ghost use lib.Dec.{leb};
 ghost use lib.ListN.{length};
 ghost use Prim.Native.Nat.{_-_, _≤_, min};
 ghost use Rattle.leasepacket.specs.Query.{part};
@@ -109,44 +110,38 @@ fn refusal_of(p: &[u8], q: Query) -> u32
 fn start(clock: Moment, refusal: u32, key: Key) -> Hunt
     ensures { λ r. ⌜ r ≡ huntStart clock refusal key ⌝ }
 {
-    let chaddr = [0; 16];
-    let octets = [0; 64];
-    let best = Lease {
-        last: Moment(0),
-        expiry: Moment(0),
-        chaddr,
-        id: octets,
-        relay: octets,
-        address: 0,
-        state: 0,
-        htype: 0,
-        hlen: 0,
-        idlen: 0,
-        relaylen: 0,
-    };
     let blank = Rank {
         last: Moment(0),
         address: 0,
     };
-    let ranks = [blank; 63];
+    let ranks = [blank; 4];
     Hunt {
         refusal,
         clock,
         key,
         kept: 0,
-        best,
         ranks,
     }
 }
 
+// Whether a table of so many records keeps its form.
+fn does_fit(table: Form, count: usize) -> bool
+    ensures { λ r. ⌜ r ≡ (leb count 256 && table .ok) ⌝ }
+{
+    if 256 < count {
+        return false;
+    }
+    table.ok
+}
+
 // The refusals in their order: 15, 9, 8, then those of the packet.
-fn first_refusal(clock: Moment, table: Form, p: &[u8], room: usize) -> Query
-    ensures { λ r. ⌜ asked (now (p .entry)) r ≡ askedAt clock (table .ok) (now (p .entry)) room ⌝ }
+fn first_refusal(clock: Moment, ok: bool, p: &[u8], room: usize) -> Query
+    ensures { λ r. ⌜ asked (now (p .entry)) r ≡ askedAt clock ok (now (p .entry)) room ⌝ }
 {
     if !clock::is_moment(clock) {
         return Query::Refused(15);
     }
-    if !table.ok {
+    if !ok {
         return Query::Refused(9);
     }
     if room < 648 {
@@ -156,10 +151,11 @@ fn first_refusal(clock: Moment, table: Form, p: &[u8], room: usize) -> Query
 }
 
 // What is looked for.
-pub fn ask(clock: Moment, table: Form, p: &[u8], room: usize) -> Hunt
-    ensures { λ r. ⌜ r ≡ huntStart clock (refusalIn (askedAt clock (table .ok) (now (p .entry)) room)) (keyFor (askedAt clock (table .ok) (now (p .entry)) room)) ⌝ }
+pub fn ask(clock: Moment, table: Form, count: usize, p: &[u8], room: usize) -> Hunt
+    ensures { λ r. ⌜ r ≡ huntStart clock (refusalIn (askedAt clock (leb count 256 && table .ok) (now (p .entry)) room)) (keyFor (askedAt clock (leb count 256 && table .ok) (now (p .entry)) room)) ⌝ }
 {
-    let q = first_refusal(clock, table, p, room);
+    let ok = does_fit(table, count);
+    let q = first_refusal(clock, ok, p, room);
     let refusal = refusal_of(p, q);
     let key = key_for(p, q);
     start(clock, refusal, key)

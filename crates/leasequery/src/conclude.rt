@@ -5,7 +5,7 @@ use lease::Lease;
 use lease::Rank;
 use lease::key;
 use leasereply::reply;
-use leasetable::hunt::Hunt;
+use leasetable::look::Found;
 ghost use mathlib.Core.Path.{_≡_};
 ghost use lib.ListN.{length};
 ghost use Prim.Native.Nat.{_≤_};
@@ -34,7 +34,7 @@ fn other(kind: u8, server: u32, query: &[u8], buf: &mut [u8]) -> LeaseAnswer
 }
 
 // LEASEACTIVE, with the addresses of the first n ranks where they are two or more.
-fn active(h: Hunt, n: usize, server: u32, query: &[u8], buf: &mut [u8]) -> LeaseAnswer
+fn active(h: Found, n: usize, server: u32, query: &[u8], buf: &mut [u8]) -> LeaseAnswer
     ensures { λ r. ⌜ (r ≡ told (activeOf h n server (now (query .entry)) (now (buf .entry)))) × (now (buf .exit) ≡ laid (written (activeOf h n server (now (query .entry)) (now (buf .entry)))) (now (buf .entry))) ⌝ }
 {
     let clock = h.clock;
@@ -45,7 +45,7 @@ fn active(h: Hunt, n: usize, server: u32, query: &[u8], buf: &mut [u8]) -> Lease
 }
 
 // The whole answer.
-pub fn conclude(h: Hunt, server: u32, query: &[u8], buf: &mut [u8]) -> LeaseAnswer
+pub fn conclude(h: Found, server: u32, query: &[u8], buf: &mut [u8]) -> LeaseAnswer
     ensures { λ r. ⌜ (r ≡ told (concluded h server (now (query .entry)) (now (buf .entry)))) × (now (buf .exit) ≡ laid (written (concluded h server (now (query .entry)) (now (buf .entry)))) (now (buf .entry))) ⌝ }
 {
     if h.refusal != 0 {
@@ -55,14 +55,13 @@ pub fn conclude(h: Hunt, server: u32, query: &[u8], buf: &mut [u8]) -> LeaseAnsw
             length: 0,
         };
     }
-    if h.kept == 0 {
+    let best = h.best;
+    if best.address == 0 {
         return other(12, server, query, buf);
     }
-    let key = h.key;
-    if key.kind != 1 {
+    if h.kind != 1 {
         return active(h, h.kept, server, query, buf);
     }
-    let best = h.best;
     let clock = h.clock;
     if key::is_active(best, clock) {
         return active(h, 0, server, query, buf);

@@ -2,7 +2,7 @@
 use clock::Moment;
 use lease::Lease;
 use leasetable::form;
-use leasetable::hunt;
+use leasetable::look;
 ghost use mathlib.Core.Path.{_≡_};
 ghost use lib.ListN.{length};
 ghost use Rattle.octets.specs.Write.{laid};
@@ -34,6 +34,7 @@ pub extern "C" fn jespurla_lease_query(
 {
     let shape = form::scan(table, form::start());
     let room = reply.len();
-    let found = hunt::scan(table, ask::ask(clock, shape, query, room));
+    let count = table.len();
+    let found = look::look(table, ask::ask(clock, shape, count, query, room));
     conclude::conclude(found, server, query, reply)
 }

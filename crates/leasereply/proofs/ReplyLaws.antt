@@ -1,13 +1,13 @@
 -- The laws of a reply's octets. Assumes nothing.
-use Prim.Native.Nat.{ℕ, zero, suc, _+_, _*_, _≤_, _<_, min}
+use Prim.Native.Nat.{ℕ, zero, suc, _+_, _*_, _/_, _%_, _≤_, _<_, min}
 use mathlib.Core.Path.{_≡_, refl, sym, ap, _∙_}
 use mathlib.Core.List.{List, [], _∷_, _++_, append-assoc, append-nil, map}
 use mathlib.Core.Bool.{Bool, true, false, cond, _||_}
 use native.Mathlib.Omega.{arith}
-use native.Mathlib.Nat.{zero-add}
+use native.Mathlib.Nat.{zero-add, mod-add-div, add-mul-mod-self-left, add-mul-div-left}
 use native.Mathlib.Numerals.{add-one}
 use lib.ListN.{length, take, drop, getD, replicate, length-append, length-take, length-replicate, length-map}
-use lib.Dec.{leb, ltb}
+use lib.Dec.{leb, ltb, lit<}
 use borrow.Author.Tests.{leb-true, leb-false, lt-ltb, le-ltb, ltb-false}
 use lib.Seq.{take-suc, length-take-le, take-all}
 use Rattle.clock.specs.declared.Moment.{Moment}
@@ -140,3 +140,19 @@ listed-short n ranks = go (ltb n 2 || ltb 63 n) refl
 pub active-fits : (clock : Moment) (server : ℕ) (q : List ℕ) (x : Lease) (n : ℕ) (ranks : List Rank) → length (x .id) ≡ 64 → length (x .relay) ≡ 64 → length (activeReply clock server q x (listed n ranks)) ≤ 648
 active-fits clock server q x n ranks a b =
     active-short clock server q x (listed n ranks) (omega (arith, length-take (x .idlen) (x .id))) (omega (arith, length-take (x .relaylen) (x .relay))) (listed-short n ranks)
+
+-- ---- the lower four octets
+part-of : (v r q k : ℕ) → v ≡ r + 256 * (k * q) → (v % 256 ≡ r % 256) × (v / 256 ≡ r / 256 + k * q)
+part-of v r q k e = let p : 0 < 256 = lit< tt in (ap (λ (m : ℕ). m % 256) e ∙ add-mul-mod-self-left r 256 (k * q), ap (λ (m : ℕ). m / 256) e ∙ add-mul-div-left r (k * q) p)
+
+pub low-octets : (v : ℕ) → bigEndian 4 (v % 4294967296) ≡ bigEndian 4 v
+unfolding bigEndian
+low-octets v =
+    let q = v / 4294967296 in
+    let r = v % 4294967296 in
+    let e : v ≡ r + 4294967296 * q = sym (mod-add-div v 4294967296) in
+    let a = part-of v r q 16777216 (omega (arith, e)) in
+    let b = part-of (v / 256) (r / 256) q 65536 (omega (arith, a .1)) in
+    let c = part-of (v / 256 / 256) (r / 256 / 256) q 256 (omega (arith, b .1)) in
+    let d = part-of (v / 256 / 256 / 256) (r / 256 / 256 / 256) q 1 (omega (arith, c .1)) in
+    rw (a .0, b .0, c .0, d .0)

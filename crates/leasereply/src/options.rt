@@ -66,6 +66,13 @@ pub(crate) fn put_lease(buf: &mut [u8], at: usize, clock: Moment, x: Lease) -> u
     put_number(buf, c, 91, since.0)
 }
 
+// The lower four octets of a number, which are all of an address.
+fn low_32(v: u64) -> u32
+    ensures { λ r. ⌜ bigEndian 4 r ≡ bigEndian 4 v ⌝ }
+{
+    (v % 4294967296) as u32
+}
+
 // The addresses of the first n ranks.
 fn put_addresses(buf: &mut [u8], at: usize, ranks: [Rank; 63], n: usize) -> usize
     requires { ⌜ n ≤ 63 ⌝ }
@@ -75,7 +82,7 @@ fn put_addresses(buf: &mut [u8], at: usize, ranks: [Rank; 63], n: usize) -> usiz
     let mut i = 0;
     while i < n {
         let rank = ranks[i];
-        a = write::put_u32(buf, a, rank.address);
+        a = write::put_u32(buf, a, low_32(rank.address));
         i += 1;
     }
     a

@@ -1,5 +1,5 @@
 -- What the hunt's scan says of the whole table. Assumes nothing.
-use mathlib.Core.Path.{_≡_, refl, sym, _∙_, ap}
+use mathlib.Core.Path.{_≡_, refl, sym, _∙_, ap, subst}
 use mathlib.Core.Bool.{Bool, true, false, cond, _&&_, _||_}
 use mathlib.Core.List.{List, [], _∷_, _++_, foldl, map, headD}
 use Prim.Native.Nat.{ℕ, zero, suc, _+_, _≤_, _<_, min}
@@ -13,10 +13,11 @@ use Rattle.clock.specs.declared.Moment.{Moment}
 use Rattle.lease.specs.declared.Lease.{Lease}
 use Rattle.lease.specs.declared.Rank.{Rank}
 use Rattle.lease.specs.Lease.{noLease, activeAt, rankOf, ranksBefore}
-use Rattle.leasetable.specs.declared.hunt.Key.{Key}
+use Rattle.leasetable.specs.declared.client.Key.{Key}
 use Rattle.leasetable.specs.declared.hunt.Hunt.{Hunt}
+use Rattle.leasetable.specs.declared.gather.Gather.{Gather}
 use Rattle.leasetable.specs.Table.{those, placed, ranked}
-use Rattle.leasetable.specs.Folds.{clientHas, huntWants, bubbled, inserted, huntBest, huntAdd, huntTurn}
+use Rattle.leasetable.specs.Folds.{clientHas, bubbled, inserted, huntWants, huntAdd, huntTurn, gatherWants, gatherAdd, gatherTurn}
 
 -- ---- lists of ranks
 bcase : {A : Type 0} (b : Bool) → (b ≡ true → A) → (b ≡ false → A) → A
@@ -46,136 +47,118 @@ placed-ranks x (y ∷ ys) =
 pub placed-length : (x : Lease) (l : List Lease) → length (placed x l) ≡ suc (length l)
 placed-length x l = sym (length-map (placed x l) rankOf) ∙ ap length (placed-ranks x l) ∙ bubbled-length (rankOf x) (map rankOf l) ∙ ap suc (length-map l rankOf)
 
-best-placed : (kept : ℕ) (l : List Lease) (x : Lease) → kept ≡ min (length l) 63 → huntBest kept (headD l noLease) x ≡ headD (placed x l) noLease
-unfolding huntBest placed headD
-best-placed kept [] x e = rw (eq-eqb kept 0 (omega (arith, e)))
-best-placed kept (y ∷ ys) x e =
-    let n : kept ≡ 0 → ⊥ = λ z. omega (arith, e, z) in
-    bcase (ranksBefore (rankOf x) (rankOf y)) (λ t. rw (ne-eqb kept 0 n, t)) (λ t. rw (ne-eqb kept 0 n, t))
-
 min-take : (l : List Rank) (n m : ℕ) → m ≡ min (length l) n → take m l ≡ take n l
 min-take l n m e = bcase (leb (length l) n)
     (λ t. let h : length l ≤ n = leb-true (length l) n t in let k : length l ≤ m = omega (arith, e) in take-all m l k ∙ sym (take-all n l h))
     (λ t. let h : n < length l = leb-false (length l) n t in let k : m ≡ n = omega (arith, e) in ap (λ (j : ℕ). take j l) k)
 
--- ---- by client: what the hunt has at hand after the leases of a list, which are in order of rank
-pub record Reached (n : ℕ) (clock : Moment) (key : Key) (h : Hunt) (l : List Lease) : Type 0 where
-  pub refusal-is : h .refusal ≡ n
-  pub clock-is : h .clock ≡ clock
-  pub key-is : h .key ≡ key
-  pub kept-is : h .kept ≡ min (length l) 63
-  pub best-is : h .best ≡ headD l noLease
-  pub ranks-are : take (h .kept) (h .ranks) ≡ take 63 (map rankOf l)
-  pub places-are : length (h .ranks) ≡ 63
+-- ---- what is kept of the leases of a list, which are in order of rank: the first ranks, as many as there are places
+pub record Reached (p kept : ℕ) (ranks : List Rank) (l : List Lease) : Type 0 where
+  pub kept-is : kept ≡ min (length l) p
+  pub ranks-are : take kept ranks ≡ take p (map rankOf l)
+  pub places-are : length ranks ≡ p
 
-add-is : (h : Hunt) (x : Lease) → h .kept ≤ 63 → huntAdd h x ≡ record { refusal = h .refusal; clock = h .clock; key = h .key; kept = min (h .kept + 1) 63; best = huntBest (h .kept) (h .best) x; ranks = inserted (h .kept) (rankOf x) (h .ranks) }
-unfolding huntAdd
-add-is h x l = rw (le-ltb 63 (h .kept) l)
-
-insert-places : (k : ℕ) (e : Rank) (l : List Rank) → k ≤ 63 → length l ≡ 63 → length (inserted k e l) ≡ 63
+insert-places : (p k : ℕ) (e : Rank) (l : List Rank) → k ≤ p → length l ≡ p → length (inserted p k e l) ≡ p
 unfolding inserted
-insert-places k e l h g =
-    let a = length-take 63 (bubbled e (take k l) ++ drop (k + 1) l) in
+insert-places p k e l h g =
+    let a = length-take p (bubbled e (take k l) ++ drop (k + 1) l) in
     let b = length-append (bubbled e (take k l)) (drop (k + 1) l) in
     let c = bubbled-length e (take k l) in
     let d = length-take k l in
     let f = length-drop (k + 1) l in
     omega (arith, a, b, c, d, f)
 
-insert-ranks : (k : ℕ) (e : Rank) (l rs : List Rank) → k ≡ min (length rs) 63 → length l ≡ 63 → take k l ≡ take 63 rs → take (min (k + 1) 63) (inserted k e l) ≡ take 63 (bubbled e rs)
+insert-ranks : (p k : ℕ) (e : Rank) (l rs : List Rank) → k ≡ min (length rs) p → length l ≡ p → take k l ≡ take p rs → take (min (k + 1) p) (inserted p k e l) ≡ take p (bubbled e rs)
 unfolding inserted
-insert-ranks k e l rs q g w =
-    let m = min (k + 1) 63 in
+insert-ranks p k e l rs q g w =
+    let m = min (k + 1) p in
     let b = bubbled e (take k l) in
     let c : length b ≡ suc (length (take k l)) = bubbled-length e (take k l) in
     let d = length-take k l in
-    let i : m ≤ 63 = omega arith in
+    let i : m ≤ p = omega arith in
     let j : m ≤ length b = omega (arith, c, d, q, g) in
-    let z : m ≡ min (length b) 63 = omega (arith, c, d, q, g) in
-    take-take m 63 (b ++ drop (k + 1) l) i
+    let z : m ≡ min (length b) p = omega (arith, c, d, q, g) in
+    take-take m p (b ++ drop (k + 1) l) i
     ∙ take-append-le m b (drop (k + 1) l) j
-    ∙ min-take b 63 m z
-    ∙ ap (λ (t : List Rank). take 63 (bubbled e t)) w
-    ∙ bubbled-front 63 e rs
+    ∙ min-take b p m z
+    ∙ ap (λ (t : List Rank). take p (bubbled e t)) w
+    ∙ bubbled-front p e rs
+
+pub reached-none : (p : ℕ) (ranks : List Rank) → length ranks ≡ p → Reached p 0 ranks []
+reached-none p ranks e = record { kept-is = omega arith; ranks-are = sym (take-nil p); places-are = e }
+  where
+    take-nil : (n : ℕ) → take n (map rankOf []) ≡ []
+    take-nil zero = refl
+    take-nil (suc n) = refl
+
+reached-more : (p k : ℕ) (ranks : List Rank) (l : List Lease) (x : Lease) → Reached p k ranks l → Reached p (min (k + 1) p) (inserted p k (rankOf x) ranks) (placed x l)
+reached-more p k ranks l x r =
+    let h : k ≤ p = omega (arith, r .kept-is) in
+    let m = length-map l rankOf in
+    let z = placed-length x l in
+    record {
+      kept-is = omega (arith, r .kept-is, z);
+      ranks-are = insert-ranks p k (rankOf x) ranks (map rankOf l) (omega (arith, r .kept-is, m)) (r .places-are) (r .ranks-are) ∙ sym (ap (take p) (placed-ranks x l));
+      places-are = insert-places p k (rankOf x) ranks h (r .places-are);
+    }
+
+abbrev pub order : List Lease → List Lease → List Lease
+order l t = foldl (λ ys x. placed x ys) l t
+
+-- ---- the first four
+pub record HuntReached (n : ℕ) (clock : Moment) (key : Key) (h : Hunt) (l : List Lease) : Type 0 where
+  pub refusal-is : h .refusal ≡ n
+  pub clock-is : h .clock ≡ clock
+  pub key-is : h .key ≡ key
+  pub reached : Reached 4 (h .kept) (h .ranks) l
+
+hunt-add-is : (h : Hunt) (x : Lease) → h .kept ≤ 4 → huntAdd h x ≡ record { refusal = h .refusal; clock = h .clock; key = h .key; kept = min (h .kept + 1) 4; ranks = inserted 4 (h .kept) (rankOf x) (h .ranks) }
+unfolding huntAdd
+hunt-add-is h x l = rw (le-ltb 4 (h .kept) l)
 
 module _ (n : ℕ) (clock : Moment) (key : Key) where
-  -- one lease more, and none
-  reached-more : (h g : Hunt) (l : List Lease) (x : Lease) → Reached n clock key h l → g ≡ huntAdd h x → Reached n clock key g (placed x l)
-  reached-more h g l x r e =
-      let k : h .kept ≤ 63 = omega (arith, r .kept-is) in
-      let a = e ∙ add-is h x k in
-      let m = length-map l rankOf in
-      let z = placed-length x l in
-      record {
-        refusal-is = ap (λ (y : Hunt). y .refusal) a ∙ r .refusal-is;
-        clock-is = ap (λ (y : Hunt). y .clock) a ∙ r .clock-is;
-        key-is = ap (λ (y : Hunt). y .key) a ∙ r .key-is;
-        kept-is = ap (λ (y : Hunt). y .kept) a ∙ omega (arith, r .kept-is, z);
-        best-is = ap (λ (y : Hunt). y .best) a ∙ ap (λ (b : Lease). huntBest (h .kept) b x) (r .best-is) ∙ best-placed (h .kept) l x (r .kept-is);
-        ranks-are =
-            ap (λ (y : Hunt). take (y .kept) (y .ranks)) a
-            ∙ insert-ranks (h .kept) (rankOf x) (h .ranks) (map rankOf l) (omega (arith, r .kept-is, m)) (r .places-are) (r .ranks-are)
-            ∙ sym (ap (take 63) (placed-ranks x l));
-        places-are = ap (λ (y : Hunt). length (y .ranks)) a ∙ insert-places (h .kept) (rankOf x) (h .ranks) k (r .places-are);
-      }
+  hunt-more : (h : Hunt) (l : List Lease) (x : Lease) → HuntReached n clock key h l → HuntReached n clock key (huntAdd h x) (placed x l)
+  hunt-more h l x r =
+      let a = hunt-add-is h x (omega (arith, r .reached .kept-is)) in
+      subst (λ (g : Hunt). HuntReached n clock key g (placed x l)) (sym a) (record { refusal-is = r .refusal-is; clock-is = r .clock-is; key-is = r .key-is; reached = reached-more 4 (h .kept) (h .ranks) l x (r .reached) })
 
-  abbrev test : Lease → Bool
-  test x = activeAt clock x && clientHas key x
+  hunt-wants : (h : Hunt) (l : List Lease) (x : Lease) → HuntReached n clock key h l → huntWants h x ≡ (activeAt clock x && clientHas key x)
+  hunt-wants h l x r = rw (r .key-is, r .clock-is)
 
-  module _ (c : key .kind ≡ 1 → ⊥) where
-    wants-is : (h : Hunt) (l : List Lease) (x : Lease) → Reached n clock key h l → huntWants h x ≡ test x
-    unfolding huntWants
-    wants-is h l x r = rw (r .key-is, r .clock-is, ne-eqb (key .kind) 1 c)
+  -- the scan puts every active lease of the client in its place
+  pub hunt-fold : (t : List Lease) (h : Hunt) (l : List Lease) → HuntReached n clock key h l → HuntReached n clock key (foldl huntTurn h t) (order l (those (λ x. activeAt clock x && clientHas key x) t))
+  unfolding those
+  hunt-fold [] h l r = r
+  hunt-fold (x ∷ xs) h l r =
+      bcase (activeAt clock x && clientHas key x)
+      (λ w. rw (w, hunt-wants h l x r ∙ w) (hunt-fold xs (huntAdd h x) (placed x l) (hunt-more h l x r)))
+      (λ w. rw (w, hunt-wants h l x r ∙ w) (hunt-fold xs h l r))
 
-    -- the scan puts every active lease of the client in its place
-    pub client-fold : (t : List Lease) (h : Hunt) (l : List Lease) → Reached n clock key h l → Reached n clock key (foldl huntTurn h t) (foldl (λ ys x. placed x ys) l (those test t))
-    unfolding those
-    client-fold [] h l r = r
-    client-fold (x ∷ xs) h l r =
-        bcase (test x)
-        (λ w. rw (w, wants-is h l x r ∙ w) (client-fold xs (huntAdd h x) (placed x l) (reached-more h (huntAdd h x) l x r refl)))
-        (λ w. rw (w, wants-is h l x r ∙ w) (client-fold xs h l r))
+-- ---- the first 63
+pub record GatherReached (n : ℕ) (clock : Moment) (key : Key) (h : Gather) (l : List Lease) : Type 0 where
+  pub refusal-is : h .refusal ≡ n
+  pub clock-is : h .clock ≡ clock
+  pub key-is : h .key ≡ key
+  pub reached : Reached 63 (h .kept) (h .ranks) l
 
--- ---- by address: the first record of the address is kept
-abbrev pub Kept : Hunt → Hunt → List Lease → Type 0
-Kept h r [] = r ≡ h
-Kept h r (x ∷ xs) = r ≡ huntAdd h x
+gather-add-is : (h : Gather) (x : Lease) → h .kept ≤ 63 → gatherAdd h x ≡ record { known = h .known; refusal = h .refusal; clock = h .clock; key = h .key; kept = min (h .kept + 1) 63; ranks = inserted 63 (h .kept) (rankOf x) (h .ranks) }
+unfolding gatherAdd
+gather-add-is h x l = rw (le-ltb 63 (h .kept) l)
 
-wants-address : (h : Hunt) (x : Lease) → h .key .kind ≡ 1 → h .kept ≡ 0 → huntWants h x ≡ eqb (x .address) (h .key .address)
-unfolding huntWants
-wants-address h x k e = rw (eq-eqb (h .key .kind) 1 k, eq-eqb (h .kept) 0 e)
+module _ (n : ℕ) (clock : Moment) (key : Key) where
+  gather-more : (h : Gather) (l : List Lease) (x : Lease) → GatherReached n clock key h l → GatherReached n clock key (gatherAdd h x) (placed x l)
+  gather-more h l x r =
+      let a = gather-add-is h x (omega (arith, r .reached .kept-is)) in
+      subst (λ (g : Gather). GatherReached n clock key g (placed x l)) (sym a) (record { refusal-is = r .refusal-is; clock-is = r .clock-is; key-is = r .key-is; reached = reached-more 63 (h .kept) (h .ranks) l x (r .reached) })
 
-wants-no-more : (h : Hunt) (x : Lease) → h .key .kind ≡ 1 → (h .kept ≡ 0 → ⊥) → huntWants h x ≡ false
-unfolding huntWants
-wants-no-more h x k e = rw (eq-eqb (h .key .kind) 1 k, ne-eqb (h .kept) 0 e)
+  gather-wants : (h : Gather) (l : List Lease) (x : Lease) → GatherReached n clock key h l → gatherWants h x ≡ (activeAt clock x && clientHas key x)
+  gather-wants h l x r = rw (r .key-is, r .clock-is)
 
-stays : (t : List Lease) (h : Hunt) → h .key .kind ≡ 1 → (h .kept ≡ 0 → ⊥) → foldl huntTurn h t ≡ h
-stays [] h k e = refl
-stays (x ∷ xs) h k e = ap (λ (b : Bool). foldl huntTurn (cond b (huntAdd h x) h) xs) (wants-no-more h x k e) ∙ stays xs h k e
-
-pub address-fold : (t : List Lease) (h : Hunt) → h .key .kind ≡ 1 → h .kept ≡ 0 → Kept h (foldl huntTurn h t) (those (λ x. eqb (x .address) (h .key .address)) t)
-unfolding those
-address-fold [] h k e = refl
-address-fold (x ∷ xs) h k e =
-    bcase (eqb (x .address) (h .key .address))
-    (λ w.
-    let a = add-is h x (omega (arith, e)) in
-    let p : huntAdd h x .key .kind ≡ 1 = ap (λ (y : Hunt). y .key .kind) a ∙ k in
-    let q : huntAdd h x .kept ≡ 0 → ⊥ = λ z. (let v : huntAdd h x .kept ≡ min (h .kept + 1) 63 = ap (λ (y : Hunt). y .kept) a in omega (arith, v, z, e)) in
-    rw (w, wants-address h x k e ∙ w) (stays xs (huntAdd h x) p q))
-    (λ w. rw (w, wants-address h x k e ∙ w) (address-fold xs h k e))
-
-pub added : (h : Hunt) (x : Lease) → h .kept ≡ 0 → (huntAdd h x .refusal ≡ h .refusal) × (huntAdd h x .clock ≡ h .clock) × (huntAdd h x .key ≡ h .key) × (huntAdd h x .kept ≡ 1) × (huntAdd h x .best ≡ x)
-unfolding huntBest
-added h x e =
-    let a = add-is h x (omega (arith, e)) in
-    (ap (λ (y : Hunt). y .refusal) a, ap (λ (y : Hunt). y .clock) a, ap (λ (y : Hunt). y .key) a, ap (λ (y : Hunt). y .kept) a ∙ omega (arith, e), ap (λ (y : Hunt). y .best) a ∙ rw (eq-eqb (h .kept) 0 e))
-
--- ---- a refusal is handed on
-turn-refusal : (h : Hunt) (x : Lease) → huntTurn h x .refusal ≡ h .refusal
-unfolding huntAdd
-turn-refusal h x = bcase (huntWants h x) (λ w. rw w (bcase (ltb 63 (h .kept)) (λ t. rw t) (λ t. rw t))) (λ w. rw w)
-
-pub fold-refusal : (t : List Lease) (h : Hunt) → foldl huntTurn h t .refusal ≡ h .refusal
-fold-refusal [] h = refl
-fold-refusal (x ∷ xs) h = fold-refusal xs (huntTurn h x) ∙ turn-refusal h x
+  -- the scan puts every active lease of the client in its place
+  pub gather-fold : (t : List Lease) (h : Gather) (l : List Lease) → GatherReached n clock key h l → GatherReached n clock key (foldl gatherTurn h t) (order l (those (λ x. activeAt clock x && clientHas key x) t))
+  unfolding those
+  gather-fold [] h l r = r
+  gather-fold (x ∷ xs) h l r =
+      bcase (activeAt clock x && clientHas key x)
+      (λ w. rw (w, gather-wants h l x r ∙ w) (gather-fold xs (gatherAdd h x) (placed x l) (gather-more h l x r)))
+      (λ w. rw (w, gather-wants h l x r ∙ w) (gather-fold xs h l r))

@@ -69,41 +69,41 @@ ends n l c =
     ap (λ (t : List Rank). (take n l ++ bubbled c t) ++ drop (n + 1) l) (drop-of-length-le (take n l) h)
     ∙ append-assoc (take n l) (c ∷ []) (drop (n + 1) l)
 
-pub starts : (n : ℕ) (l : List Rank) (c : Rank) → inserted n c l ≡ take 63 (whole n l c 0)
+pub starts : (p n : ℕ) (l : List Rank) (c : Rank) → inserted p n c l ≡ take p (whole n l c 0)
 unfolding inserted
-starts n l c = refl
+starts p n l c = refl
 
 -- with room, the last goes behind the others
-pub kept : (n : ℕ) (l : List Rank) (c : Rank) → n < 63 → length l ≡ 63 → set l n c ≡ take 63 (whole n l c n)
-kept n l c h g =
+pub kept : (p n : ℕ) (l : List Rank) (c : Rank) → n < p → length l ≡ p → set l n c ≡ take p (whole n l c n)
+kept p n l c h g =
     let k : n < length l = omega arith in
     let e : set l n c ≡ take n l ++ (c ∷ drop (n + 1) l) = rw (add-one, set-split l n c k) in
-    let s : length (set l n c) ≤ 63 = simp length-set (omega arith) in
-    sym (ap (take 63) (ends n l c ∙ sym e) ∙ take-all 63 (set l n c) s)
+    let s : length (set l n c) ≤ p = simp length-set (omega arith) in
+    sym (ap (take p) (ends n l c ∙ sym e) ∙ take-all p (set l n c) s)
 
 -- without, it is dropped
-pub dropped : (n : ℕ) (l : List Rank) (c : Rank) → n ≡ 63 → length l ≡ 63 → l ≡ take 63 (whole n l c n)
-dropped n l c h g =
-    let s : length (take n l) ≡ 63 = simp length-take (omega arith) in
+pub dropped : (p n : ℕ) (l : List Rank) (c : Rank) → n ≡ p → length l ≡ p → l ≡ take p (whole n l c n)
+dropped p n l c h g =
+    let s : length (take n l) ≡ p = simp length-take (omega arith) in
     let a : length l ≤ n = omega arith in
-    sym (ap (take 63) (ends n l c) ∙ take-at (take n l) (c ∷ drop (n + 1) l) 63 s ∙ take-all n l a)
+    sym (ap (take p) (ends n l c) ∙ take-at (take n l) (c ∷ drop (n + 1) l) p s ∙ take-all n l a)
 
 -- a turn of the loop that swaps, and one that does not, in the terms of the loop's variables after it
-module _ (n : ℕ) (l l′ : List Rank) (c c′ : Rank) (i : ℕ) (h : i < n) (m : n ≤ 63) (g : length l ≡ 63) where
-  pub turn-swaps : ranksBefore c (getD l i noRank) ≡ true → l′ ≡ set l i c → c′ ≡ getD l i noRank → (length l′ ≡ 63) × (whole n l c i ≡ whole n l′ c′ (i + 1))
-  turn-swaps e p q =
+module _ (p n : ℕ) (l l′ : List Rank) (c c′ : Rank) (i : ℕ) (h : i < n) (m : n ≤ p) (g : length l ≡ p) where
+  pub turn-swaps : ranksBefore c (getD l i noRank) ≡ true → l′ ≡ set l i c → c′ ≡ getD l i noRank → (length l′ ≡ p) × (whole n l c i ≡ whole n l′ c′ (i + 1))
+  turn-swaps e u v =
       let s : n ≤ length l = omega arith in
       let k : i < n + 1 = omega arith in (
-        ap length p ∙ simp length-set g,
+        ap length u ∙ simp length-set g,
         ap (λ (t : List Rank). t ++ drop (n + 1) l) (swaps n l c i noRank h s e)
             ∙ ap (λ (t : List Rank). at n (set l i c) (getD l i noRank) (i + 1) ++ t) (sym (drop-set-lt (n + 1) l i c k))
-            ∙ ap (λ (t : List Rank). whole n t (getD l i noRank) (i + 1)) (sym p) ∙ ap (λ (t : Rank). whole n l′ t (i + 1)) (sym q),
+            ∙ ap (λ (t : List Rank). whole n t (getD l i noRank) (i + 1)) (sym u) ∙ ap (λ (t : Rank). whole n l′ t (i + 1)) (sym v),
       )
 
-  pub turn-goes-on : ranksBefore c (getD l i noRank) ≡ false → l′ ≡ l → c′ ≡ c → (length l′ ≡ 63) × (whole n l c i ≡ whole n l′ c′ (i + 1))
-  turn-goes-on e p q =
+  pub turn-goes-on : ranksBefore c (getD l i noRank) ≡ false → l′ ≡ l → c′ ≡ c → (length l′ ≡ p) × (whole n l c i ≡ whole n l′ c′ (i + 1))
+  turn-goes-on e u v =
       let s : n ≤ length l = omega arith in (
-        ap length p ∙ g,
+        ap length u ∙ g,
         ap (λ (t : List Rank). t ++ drop (n + 1) l) (goes-on n l c i noRank h s e)
-            ∙ ap (λ (t : List Rank). whole n t c (i + 1)) (sym p) ∙ ap (λ (t : Rank). whole n l′ t (i + 1)) (sym q),
+            ∙ ap (λ (t : List Rank). whole n t c (i + 1)) (sym u) ∙ ap (λ (t : Rank). whole n l′ t (i + 1)) (sym v),
       )

@@ -1,5 +1,5 @@
--- A scan of a lent slice of structs: `let mut acc = a; let mut i = 0; while i < t.len() { let x = t[i]; i += 1; if wants(acc, x) { acc = add(acc, x); } } acc`,
--- for any struct in the slice, any struct that is carried, any test and any step. They and their laws are the parameters.
+-- A scan of a lent slice of structs: `if off(a) { return a; } let mut acc = a; let mut i = 0; while i < t.len() { let x = t[i]; i += 1; if wants(acc, x) { acc = add(acc, x); } } acc`,
+-- for any struct in the slice, any struct that is carried, any tests and any step. They and their laws are the parameters.
 -- A function of this shape cites `walk`, and shows how it exits. Assumes nothing.
 use mathlib.Core.Path.{_≡_, refl, sym, _∙_, ap}
 use Prim.Native.Nat.{ℕ, suc, _+_, _-_, _<_, _≤_, _^_, _*_, zero-le}
@@ -29,7 +29,7 @@ use contract.Monad.{Fun, fact}
 use contract.Running.{givenOf, tables, tablesOf}
 use types.Kit.{Given, Item, ‵, raw, _⊛_, ⋆, some, later, runs, anyQ, atRet, Sq, _$_, _∵_, !, qed, by, move, keep, drop, use1, use2, split, join, pick, rewrite, fsplit, fjoin, suffices, frame, await, done}
 use types.Part.{whole, sub, look-in}
-use types.Run.{look, look-raw, store, init, forget, stop, hop, fld, from, load, lit, of-opd, bin, and-then, no-more, assigns, assigns-last, land, land-last, skips, branches, first, blocks, stays, leaves-loop, returns, enter, alloc1, alloc0, params1, pass1, pass0, free1, free0, exec, Below, again, loops}
+use types.Run.{look, look-raw, store, init, forget, stop, hop, fld, from, load, lit, of-opd, bin, and-then, no-more, assigns, assigns-last, land, land-last, skips, branches, first, blocks, stays, leaves-loop, returns, enter, alloc1, alloc0, params1, pass1, pass0, free1, free0, exec, Below, again, loops, returns-within}
 use types.Share.{arr-parts}
 use sound.WpLaws.{fmOf, WpFn-mono}
 use denote.RattleType.{RattleType, owns}
@@ -70,7 +70,7 @@ head-is : (u v : Val) → _≡_ {A = List Val} (u ∷ []) (v ∷ []) → u ≡ v
 unfolding headD
 head-is u v e = ap (λ (l : List Val). headD l u) e
 
-module _ (TR : Declared) (LR : LL.Laws TR) (CR : LL.Copyables (TR .parts)) (PR : Plains (fields TR)) (d : TR .D) (TS : Declared) (LS : LL.Laws TS) (PS : Plains (fields TS)) (wants : TS .D → TR .D → Bool) (add₁ : TS .D → TR .D → TS .D) (#w #g : Name) (small : Holds (ltb (memᴹ (row TR) .size) (2 ^ 64))) where
+module _ (TR : Declared) (LR : LL.Laws TR) (CR : LL.Copyables (TR .parts)) (PR : Plains (fields TR)) (d : TR .D) (TS : Declared) (LS : LL.Laws TS) (PS : Plains (fields TS)) (wants : TS .D → TR .D → Bool) (add₁ : TS .D → TR .D → TS .D) (off : TS .D → Bool) (#w #g #o : Name) (small : Holds (ltb (memᴹ (row TR) .size) (2 ^ 64))) where
   abbrev pub step : TS .D → TR .D → TS .D
   step a x = cond (wants a x) (add₁ a x) a
 
@@ -100,16 +100,16 @@ module _ (TR : Declared) (LR : LL.Laws TR) (CR : LL.Copyables (TR .parts)) (PR :
   adds = call #g (copy (place 3 []) ∷ copy (place 5 []) ∷ []) (place 3 [])
 
   abbrev turn : Body
-  turn = seq (assign (place 6 []) (rvOpd (copy (place 1 (field 1 ∷ [])))))
-      (seq (assign (place 7 []) (op2 (lt unsigned) (copy (place 4 [])) (copy (place 6 []))))
-      (seq (condᴹ (copy (place 7 [])) skipᴹ (exit 1))
-      (seq (assign (place 6 []) (op2 (mul unsigned) (copy (place 4 [])) (int w64 size)))
-      (seq (assign (place 8 []) (op2 offset (copy (place 1 (field 0 ∷ []))) (copy (place 6 []))))
-      (seq (assign (place 9 []) (rvOpd (copy (place 8 (deref τR ∷ [])))))
-      (seq (assign (place 5 []) (rvOpd (copy (place 9 []))))
+  turn = seq (assign (place 7 []) (rvOpd (copy (place 1 (field 1 ∷ [])))))
+      (seq (assign (place 8 []) (op2 (lt unsigned) (copy (place 4 [])) (copy (place 7 []))))
+      (seq (condᴹ (copy (place 8 [])) skipᴹ (exit 1))
+      (seq (assign (place 7 []) (op2 (mul unsigned) (copy (place 4 [])) (int w64 size)))
+      (seq (assign (place 9 []) (op2 offset (copy (place 1 (field 0 ∷ []))) (copy (place 7 []))))
+      (seq (assign (place 10 []) (rvOpd (copy (place 9 (deref τR ∷ [])))))
+      (seq (assign (place 5 []) (rvOpd (copy (place 10 []))))
       (seq (assign (place 4 []) (op2 (add unsigned) (copy (place 4 [])) (int w64 1)))
-      (seq (call #w (copy (place 3 []) ∷ copy (place 5 []) ∷ []) (place 10 []))
-      (condᴹ (copy (place 10 [])) adds skipᴹ)))))))))
+      (seq (call #w (copy (place 3 []) ∷ copy (place 5 []) ∷ []) (place 11 []))
+      (condᴹ (copy (place 11 [])) adds skipᴹ)))))))))
 
   abbrev after : Body
   after = seq (assign (place 0 []) (rvOpd (copy (place 3 [])))) return
@@ -117,13 +117,19 @@ module _ (TR : Declared) (LR : LL.Laws TR) (CR : LL.Copyables (TR .parts)) (PR :
   abbrev rest : Body
   rest = seq (block (loop turn)) after
 
+  abbrev looks : Body
+  looks = seq (assign (place 3 []) (rvOpd (copy (place 2 [])))) (seq (assign (place 4 []) (rvOpd (int w64 0))) rest)
+
+  abbrev outright : Body
+  outright = seq (assign (place 0 []) (rvOpd (copy (place 2 [])))) return
+
   abbrev pub function : Fn
   function = record {
     lifetimes = 1;
     outlives = [];
     params = 2;
-    locals = local τS valueLocal ∷ local slice valueLocal ∷ local τS valueLocal ∷ local τS valueLocal ∷ local word valueLocal ∷ local τR valueLocal ∷ local word valueLocal ∷ local tyBool valueLocal ∷ local tyPtr valueLocal ∷ local τR valueLocal ∷ local tyBool valueLocal ∷ [];
-    body = seq (assign (place 3 []) (rvOpd (copy (place 2 [])))) (seq (assign (place 4 []) (rvOpd (int w64 0))) rest);
+    locals = local τS valueLocal ∷ local slice valueLocal ∷ local τS valueLocal ∷ local τS valueLocal ∷ local word valueLocal ∷ local τR valueLocal ∷ local tyBool valueLocal ∷ local word valueLocal ∷ local tyBool valueLocal ∷ local tyPtr valueLocal ∷ local τR valueLocal ∷ local tyBool valueLocal ∷ [];
+    body = seq (call #o (copy (place 2 []) ∷ []) (place 6 [])) (seq (condᴹ (copy (place 6 [])) outright skipᴹ) looks);
   }
 
   -- the contracts of the test and of the step: they give `wants` and `add₁` of what they are passed
@@ -150,6 +156,19 @@ module _ (TR : Declared) (LR : LL.Laws TR) (CR : LL.Copyables (TR .parts)) (PR :
 
   abbrev pub Step : {M : Type 1} (𝓤 : URA M) (H : Heap 𝓤) (A : Atoms 𝓤) → Contract 𝓤
   Step 𝓤 H A = tripleOf 𝓤 H A stepSig (closing 𝓤 H A stepEnded (stepClauses 𝓤))
+
+  -- the contract of the test that is made first, of what is carried
+  abbrev offSig : Signature
+  offSig = record { lifetimes = 0; outlives = []; params = plain (λ κs. S) ∷ []; result = plain (λ κs. bool) }
+
+  abbrev offEnded : Ended
+  offEnded = record { signature = offSig; kept = (yes, tt) }
+
+  abbrev offClauses : {M : Type 1} (𝓤 : URA M) → Clauses 𝓤 offEnded
+  offClauses 𝓤 κs a = record { ghost = Unit {0}; requires = λ _. emp 𝓤; ensures = λ _ r e. fact 𝓤 (r ≡ off (a .0)) }
+
+  abbrev pub Off : {M : Type 1} (𝓤 : URA M) (H : Heap 𝓤) (A : Atoms 𝓤) → Contract 𝓤
+  Off 𝓤 H A = tripleOf 𝓤 H A offSig (closing 𝓤 H A offEnded (offClauses 𝓤))
 
   -- what the slice reference owns, in parts
   abbrev pub Shared : Lft → ℕ → ℕ → List (TR .D) → Fml
@@ -222,7 +241,7 @@ module _ (TR : Declared) (LR : LL.Laws TR) (CR : LL.Copyables (TR .parts)) (PR :
       said : (r : (TS .D)) → ent 𝓤 (ensured 𝓤 H A stepEnded (stepClauses 𝓤) tt (t .acc, (e, tt)) tt r) (fact 𝓤 (r ≡ add₁ (t .acc) e))
       said r = exE 𝓤 _ (λ ws. snd∗ 𝓤 (sem 𝓤 H A (lasts stepEnded tt (t .acc, (e, tt)) ws)) (fact 𝓤 (r ≡ add₁ (t .acc) e)))
 
-    module _ (𝓣 : Tables 𝓤 H) (knownW : Triple 𝓤 (𝓣 .C #w) (Want 𝓤 H A)) (known : Triple 𝓤 (𝓣 .C #g) (Step 𝓤 H A)) (l₀ l₁ l₂ l₃ l₄ l₅ l₆ l₇ l₈ l₉ l₁₀ : ℕ) where
+    module _ (𝓣 : Tables 𝓤 H) (knownW : Triple 𝓤 (𝓣 .C #w) (Want 𝓤 H A)) (known : Triple 𝓤 (𝓣 .C #g) (Step 𝓤 H A)) (l₀ l₁ l₂ l₃ l₄ l₅ l₆ l₇ l₈ l₉ l₁₀ l₁₁ : ℕ) where
       abbrev C : Calls 𝓤 H
       C = 𝓣 .C
 
@@ -230,11 +249,11 @@ module _ (TR : Declared) (LR : LL.Laws TR) (CR : LL.Copyables (TR .parts)) (PR :
       Λ = 𝓣 .Λ
 
       abbrev En : Env 𝓤 H
-      En = (τS, l₀) ∷ (slice, l₁) ∷ (τS, l₂) ∷ (τS, l₃) ∷ (word, l₄) ∷ (τR, l₅) ∷ (word, l₆) ∷ (tyBool, l₇) ∷ (tyPtr, l₈) ∷ (τR, l₉) ∷ (tyBool, l₁₀) ∷ []
+      En = (τS, l₀) ∷ (slice, l₁) ∷ (τS, l₂) ∷ (τS, l₃) ∷ (word, l₄) ∷ (τR, l₅) ∷ (tyBool, l₆) ∷ (word, l₇) ∷ (tyBool, l₈) ∷ (tyPtr, l₉) ∷ (τR, l₁₀) ∷ (tyBool, l₁₁) ∷ []
 
       abbrev At : Turn → List (Item 𝓤)
-      At t = ‵ (Shared κ b o ys) ∷ ‵ (flft κ q) ∷ ‵ (froom tyBool l₁₀ 0) ∷ ‵ (fdies tyBool l₁₀) ∷ ‵ (froom τR l₉ 0) ∷ ‵ (fdies τR l₉) ∷ ‵ (froom tyPtr l₈ 0) ∷ ‵ (fdies tyPtr l₈) ∷ ‵ (froom tyBool l₇ 0) ∷ ‵ (fdies tyBool l₇)
-          ∷ ‵ (froom word l₆ 0) ∷ ‵ (fdies word l₆) ∷ ‵ (froom τR l₅ 0) ∷ ‵ (fdies τR l₅)
+      At t = ‵ (Shared κ b o ys) ∷ ‵ (flft κ q) ∷ ‵ (froom tyBool l₁₁ 0) ∷ ‵ (fdies tyBool l₁₁) ∷ ‵ (froom τR l₁₀ 0) ∷ ‵ (fdies τR l₁₀) ∷ ‵ (froom tyPtr l₉ 0) ∷ ‵ (fdies tyPtr l₉) ∷ ‵ (froom tyBool l₈ 0) ∷ ‵ (fdies tyBool l₈)
+          ∷ ‵ (froom word l₇ 0) ∷ ‵ (fdies word l₇) ∷ ‵ (froom tyBool l₆ 0) ∷ ‵ (fdies tyBool l₆) ∷ ‵ (froom τR l₅ 0) ∷ ‵ (fdies τR l₅)
           ∷ ‵ (fat fullShare word l₄ 0 (vint w64 (t .i))) ∷ ‵ (fdies word l₄) ∷ ‵ (fat fullShare τS l₃ 0 (t .v)) ∷ ‵ (fdies τS l₃) ∷ ‵ (fat fullShare τS l₂ 0 va) ∷ ‵ (fdies τS l₂)
           ∷ ‵ (fat fullShare slice l₁ 0 (sliceVal (b, o) n)) ∷ ‵ (fdies slice l₁) ∷ ‵ (froom τS l₀ 0) ∷ ‵ (fdies τS l₀) ∷ ‵ (Named γ ys) ∷ ‵ (Sized b o γ ys) ∷ []
 
@@ -243,8 +262,8 @@ module _ (TR : Declared) (LR : LL.Laws TR) (CR : LL.Copyables (TR .parts)) (PR :
 
       -- where the test has been made of the element: it is in _5, its number is counted
       abbrev Tested : Turn → Val → Bool → List (Item 𝓤)
-      Tested t ve r = ‵ (flft κ q) ∷ ‵ (Shared κ b o ys) ∷ ‵ (fat fullShare tyBool l₁₀ 0 (vbool r)) ∷ ‵ (fdies tyBool l₁₀) ∷ ‵ (fat fullShare τR l₉ 0 ve) ∷ ‵ (fdies τR l₉) ∷ ‵ (fat fullShare tyPtr l₈ 0 (vptr b (placed size o (t .i)))) ∷ ‵ (fdies tyPtr l₈) ∷ ‵ (fat fullShare tyBool l₇ 0 (vbool true)) ∷ ‵ (fdies tyBool l₇)
-          ∷ ‵ (fat fullShare word l₆ 0 (vint w64 (t .i * size))) ∷ ‵ (fdies word l₆) ∷ ‵ (fat fullShare τR l₅ 0 ve) ∷ ‵ (fdies τR l₅)
+      Tested t ve r = ‵ (flft κ q) ∷ ‵ (Shared κ b o ys) ∷ ‵ (fat fullShare tyBool l₁₁ 0 (vbool r)) ∷ ‵ (fdies tyBool l₁₁) ∷ ‵ (fat fullShare τR l₁₀ 0 ve) ∷ ‵ (fdies τR l₁₀) ∷ ‵ (fat fullShare tyPtr l₉ 0 (vptr b (placed size o (t .i)))) ∷ ‵ (fdies tyPtr l₉) ∷ ‵ (fat fullShare tyBool l₈ 0 (vbool true)) ∷ ‵ (fdies tyBool l₈)
+          ∷ ‵ (fat fullShare word l₇ 0 (vint w64 (t .i * size))) ∷ ‵ (fdies word l₇) ∷ ‵ (froom tyBool l₆ 0) ∷ ‵ (fdies tyBool l₆) ∷ ‵ (fat fullShare τR l₅ 0 ve) ∷ ‵ (fdies τR l₅)
           ∷ ‵ (fat fullShare word l₄ 0 (vint w64 (t .i + 1))) ∷ ‵ (fdies word l₄) ∷ ‵ (fat fullShare τS l₃ 0 (t .v)) ∷ ‵ (fdies τS l₃) ∷ ‵ (fat fullShare τS l₂ 0 va) ∷ ‵ (fdies τS l₂)
           ∷ ‵ (fat fullShare slice l₁ 0 (sliceVal (b, o) n)) ∷ ‵ (fdies slice l₁) ∷ ‵ (froom τS l₀ 0) ∷ ‵ (fdies τS l₀) ∷ ‵ (Named γ ys) ∷ ‵ (Sized b o γ ys) ∷ []
 
@@ -252,7 +271,7 @@ module _ (TR : Declared) (LR : LL.Laws TR) (CR : LL.Copyables (TR .parts)) (PR :
       next t less r u is e = record { i = t .i + 1; acc = r; v = u; below = add-one-le less; is = is; inv = fold-more ys (t .i) (t .acc) r less e ∙ t .inv }
 
       -- the element is wanted, or it is not
-      tested : (t : Turn) (less : t .i < n) (ve : Val) → Is R (getD ys (t .i) d) (ve ∷ []) → (r : Bool) → r ≡ wants (t .acc) (getD ys (t .i) d) → Sq W (Tested t ve r) (runs C Λ En (condᴹ (copy (place 10 [])) adds skipᴹ) (anyQ (Turned t)))
+      tested : (t : Turn) (less : t .i < n) (ve : Val) → Is R (getD ys (t .i) d) (ve ∷ []) → (r : Bool) → r ≡ wants (t .acc) (getD ys (t .i) d) → Sq W (Tested t ve r) (runs C Λ En (condᴹ (copy (place 11 [])) adds skipᴹ) (anyQ (Turned t)))
       unfolding afterTurn
       tested t less ve ge r w = branches ! (load ! (from ! (stop !)) (look ! 2 refl)) yes-arm no-arm
         where
@@ -262,12 +281,12 @@ module _ (TR : Declared) (LR : LL.Laws TR) (CR : LL.Copyables (TR .parts)) (PR :
           yes-arm : Holds r → Sq W (Tested t ve r) (runs C Λ En adds (anyQ (Turned t)))
           yes-arm y =
               nothing ! $ use1 W (raw (Step 𝓤 H A .pre (to t elem ve ge))) (asked t elem ve ge) $
-              calls-at-last ! (fmOf 𝓤 H (W .laws) 𝓣) (Step 𝓤 H A) known (to t elem ve ge) (and-then ! (load ! (from ! (stop !)) (look ! 17 refl)) (and-then ! (load ! (from ! (stop !)) (look ! 13 refl)) (no-more !))) (λ u.
+              calls-at-last ! (fmOf 𝓤 H (W .laws) 𝓣) (Step 𝓤 H A) known (to t elem ve ge) (and-then ! (load ! (from ! (stop !)) (look ! 19 refl)) (and-then ! (load ! (from ! (stop !)) (look ! 15 refl)) (no-more !))) (λ u.
               use1 W (later (some (λ (r : (TS .D)). (‵ ftrue ⊛ ‵ (S .own r (u ∷ []))) ⊛ raw (ensured 𝓤 H A stepEnded (stepClauses 𝓤) tt (t .acc, (elem, tt)) tt r)))) (id⊢ 𝓤 _) $ await ! tt $ pick ! (λ z.
               split ! $ move ! (1 ∷ []) $ use1 W (raw (fact 𝓤 (z ≡ add₁ (t .acc) elem))) (said t elem ve ge z) $ heard ! (z ≡ add₁ (t .acc) elem) (λ e. split ! $ drop ! $
               peeks ! S (Is S) (shows 𝓤 H A S) z (u ∷ []) (λ is. drop ! $
-              land-last ! (from ! (stop !)) (store ! 16 refl (typed z u is)) $
-              forget ! 2 refl $ forget ! 4 refl $ forget ! 6 refl $ forget ! 8 refl $ forget ! 10 refl $ forget ! 12 refl $ move ! (1 ∷ 0 ∷ []) $
+              land-last ! (from ! (stop !)) (store ! 18 refl (typed z u is)) $
+              forget ! 2 refl $ forget ! 4 refl $ forget ! 6 refl $ forget ! 8 refl $ forget ! 10 refl $ forget ! 14 refl $ move ! (1 ∷ 0 ∷ []) $
               again ! Nearer At t (next t less z u is (e ∙ sym (taken (so-true r y)))) (add-one-dec n (t .i) less)))))
             where
               taken : r ≡ true → step (t .acc) elem ≡ add₁ (t .acc) elem
@@ -275,7 +294,7 @@ module _ (TR : Declared) (LR : LL.Laws TR) (CR : LL.Copyables (TR .parts)) (PR :
 
           no-arm : Holds (not r) → Sq W (Tested t ve r) (runs C Λ En skipᴹ (anyQ (Turned t)))
           no-arm y =
-              skips ! $ forget ! 2 refl $ forget ! 4 refl $ forget ! 6 refl $ forget ! 8 refl $ forget ! 10 refl $ forget ! 12 refl $ move ! (1 ∷ 0 ∷ []) $
+              skips ! $ forget ! 2 refl $ forget ! 4 refl $ forget ! 6 refl $ forget ! 8 refl $ forget ! 10 refl $ forget ! 14 refl $ move ! (1 ∷ 0 ∷ []) $
               again ! Nearer At t (next t less (t .acc) (t .v) (t .is) (sym (left (so-false r y)))) (add-one-dec n (t .i) less)
             where
               left : r ≡ false → step (t .acc) elem ≡ t .acc
@@ -285,28 +304,28 @@ module _ (TR : Declared) (LR : LL.Laws TR) (CR : LL.Copyables (TR .parts)) (PR :
       more : (t : Turn) → t .i < n → Sq W (At t) (runs C Λ En turn (anyQ (Turned t)))
       unfolding afterTurn
       more t less =
-          assigns ! (of-opd ! (load ! (from ! (fld ! refl (stop !))) (look-in ! 20 (sub ! 1 refl (whole !))))) (from ! (stop !)) (init ! 10 refl (tt, record { fits = gn .0 })) $
-          assigns ! (bin ! (load ! (from ! (stop !)) (look ! 14 refl)) (load ! (from ! (stop !)) (look ! 10 refl)) tt) (from ! (stop !)) (init ! 8 refl (tt, tt)) $
-          rewrite ! 8 (λ (y : Bool). ‵ (fat fullShare tyBool l₇ 0 (vbool y))) (lt-ltb (t .i) n less) refl $
+          assigns ! (of-opd ! (load ! (from ! (fld ! refl (stop !))) (look-in ! 22 (sub ! 1 refl (whole !))))) (from ! (stop !)) (init ! 10 refl (tt, record { fits = gn .0 })) $
+          assigns ! (bin ! (load ! (from ! (stop !)) (look ! 16 refl)) (load ! (from ! (stop !)) (look ! 10 refl)) tt) (from ! (stop !)) (init ! 8 refl (tt, tt)) $
+          rewrite ! 8 (λ (y : Bool). ‵ (fat fullShare tyBool l₈ 0 (vbool y))) (lt-ltb (t .i) n less) refl $
           stays ! (load ! (from ! (stop !)) (look ! 8 refl)) $
-          assigns ! (bin ! (load ! (from ! (stop !)) (look ! 14 refl)) (lit ! small) (scaled-fits (t .i) n size less (gn .1))) (from ! (stop !)) (store ! 10 refl (tt, scaled-fits (t .i) n size less (gn .1))) $
-          assigns ! (bin ! (load ! (from ! (fld ! refl (stop !))) (look-in ! 20 (sub ! 0 refl (whole !)))) (load ! (from ! (stop !)) (look ! 10 refl)) tt) (from ! (stop !)) (init ! 6 refl (tt, tt)) $
-          rewrite ! 6 (λ (p : ℕ). ‵ (fat fullShare tyPtr l₈ 0 (vptr b p))) (sym (place-is size o (t .i))) refl $
+          assigns ! (bin ! (load ! (from ! (stop !)) (look ! 16 refl)) (lit ! small) (scaled-fits (t .i) n size less (gn .1))) (from ! (stop !)) (store ! 10 refl (tt, scaled-fits (t .i) n size less (gn .1))) $
+          assigns ! (bin ! (load ! (from ! (fld ! refl (stop !))) (look-in ! 22 (sub ! 0 refl (whole !)))) (load ! (from ! (stop !)) (look ! 10 refl)) tt) (from ! (stop !)) (init ! 6 refl (tt, tt)) $
+          rewrite ! 6 (λ (p : ℕ). ‵ (fat fullShare tyPtr l₉ 0 (vptr b p))) (sym (place-is size o (t .i))) refl $
           looks-slice ! tt R (Is R) (shows 𝓤 H A R) (LL.vals TR LR) (LL.tells TR LR) (LL.copy TR CR 𝓤 H A W) ys b o (λ q′.
           elem-out ! R (Is R) (shows 𝓤 H A R) (LL.vals TR LR) (LL.tells TR LR) q′ ys (t .i) d b o less (λ ge.
           -- [t[i]; what it owns; the others; what shuts; the borrow; _10; …]
           assigns ! (of-opd ! (load ! (from ! (hop ! (look ! 9 refl) (stop !))) (look-raw ! 0 refl))) (from ! (stop !)) (init ! 7 refl (LL.lawful TR LR 𝓤 H A W .typed elem _ ge .0)) $
           elem-back ! R q′ ys (t .i) d (ve ∷ []) b o less $ shuts-slice ! tt R q′ ys b o $
           -- [the token; the borrow; _10; …]
-          assigns ! (of-opd ! (load ! (from ! (stop !)) (look ! 4 refl))) (from ! (stop !)) (init ! 12 refl (LL.lawful TR LR 𝓤 H A W .typed elem _ ge .0)) $
-          assigns ! (bin ! (load ! (from ! (stop !)) (look ! 14 refl)) (lit ! tt) (record { fits = next-fits (t .i) n less (gn .0) })) (from ! (stop !)) (store ! 14 refl (tt, record { fits = next-fits (t .i) n less (gn .0) })) $
+          assigns ! (of-opd ! (load ! (from ! (stop !)) (look ! 4 refl))) (from ! (stop !)) (init ! 14 refl (LL.lawful TR LR 𝓤 H A W .typed elem _ ge .0)) $
+          assigns ! (bin ! (load ! (from ! (stop !)) (look ! 16 refl)) (lit ! tt) (record { fits = next-fits (t .i) n less (gn .0) })) (from ! (stop !)) (store ! 16 refl (tt, record { fits = next-fits (t .i) n less (gn .0) })) $
           nothing ! $ use1 W (raw (Want 𝓤 H A .pre (toW t elem ve ge))) (askedW t elem ve ge) $
-          calls-at ! (fmOf 𝓤 H (W .laws) 𝓣) (Want 𝓤 H A) knownW (toW t elem ve ge) (and-then ! (load ! (from ! (stop !)) (look ! 17 refl)) (and-then ! (load ! (from ! (stop !)) (look ! 13 refl)) (no-more !))) (λ u.
+          calls-at ! (fmOf 𝓤 H (W .laws) 𝓣) (Want 𝓤 H A) knownW (toW t elem ve ge) (and-then ! (load ! (from ! (stop !)) (look ! 19 refl)) (and-then ! (load ! (from ! (stop !)) (look ! 15 refl)) (no-more !))) (λ u.
           use1 W (later (some (λ (r : Bool). (‵ ftrue ⊛ ‵ (bool .own r (u ∷ []))) ⊛ raw (ensured 𝓤 H A wantEnded (wantClauses 𝓤) tt (t .acc, (elem, tt)) tt r)))) (id⊢ 𝓤 _) $ await ! tt $ pick ! (λ r.
           split ! $ move ! (1 ∷ []) $ use1 W (raw (fact 𝓤 (r ≡ wants (t .acc) elem))) (saidW t elem ve ge r) $ heard ! (r ≡ wants (t .acc) elem) (λ e. split ! $ drop ! $
           peeks ! bool (Is bool) (shows 𝓤 H A bool) r (u ∷ []) (λ is. drop ! $
           land ! (from ! (stop !)) (init ! 2 refl (bool-lawful 𝓤 H A W .typed r (u ∷ []) is .0)) $
-          rewrite ! 2 (λ (v : Val). ‵ (fat fullShare tyBool l₁₀ 0 v)) (head-is u (vbool r) is) refl $
+          rewrite ! 2 (λ (v : Val). ‵ (fat fullShare tyBool l₁₁ 0 v)) (head-is u (vbool r) is) refl $
           tested t less ve ge r e))))))
         where
           elem : (TR .D)
@@ -319,13 +338,13 @@ module _ (TR : Declared) (LR : LL.Laws TR) (CR : LL.Copyables (TR .parts)) (PR :
       ends : (t : Turn) → t .i ≡ n → Sq W (At t) (runs C Λ En turn (anyQ (Turned t)))
       unfolding afterTurn
       ends t over =
-          assigns ! (of-opd ! (load ! (from ! (fld ! refl (stop !))) (look-in ! 20 (sub ! 1 refl (whole !))))) (from ! (stop !)) (init ! 10 refl (tt, record { fits = gn .0 })) $
-          assigns ! (bin ! (load ! (from ! (stop !)) (look ! 14 refl)) (load ! (from ! (stop !)) (look ! 10 refl)) tt) (from ! (stop !)) (init ! 8 refl (tt, tt)) $
-          rewrite ! 8 (λ (y : Bool). ‵ (fat fullShare tyBool l₇ 0 (vbool y))) (le-ltb (t .i) n (omega arith)) refl $
+          assigns ! (of-opd ! (load ! (from ! (fld ! refl (stop !))) (look-in ! 22 (sub ! 1 refl (whole !))))) (from ! (stop !)) (init ! 10 refl (tt, record { fits = gn .0 })) $
+          assigns ! (bin ! (load ! (from ! (stop !)) (look ! 16 refl)) (load ! (from ! (stop !)) (look ! 10 refl)) tt) (from ! (stop !)) (init ! 8 refl (tt, tt)) $
+          rewrite ! 8 (λ (y : Bool). ‵ (fat fullShare tyBool l₈ 0 (vbool y))) (le-ltb (t .i) n (omega arith)) refl $
           leaves-loop ! (load ! (from ! (stop !)) (look ! 8 refl)) $ exec ! C Λ En after (atRet En Post) $
-          assigns ! (of-opd ! (load ! (from ! (stop !)) (look ! 16 refl))) (from ! (stop !)) (init ! 22 refl (typed (t .acc) (t .v) (t .is))) $
-          returns ! (look ! 22 refl) $ forget ! 8 refl $ forget ! 10 refl $ forget ! 14 refl $ forget ! 16 refl $ forget ! 18 refl $ forget ! 20 refl $ forget ! 22 refl $
-          move ! (22 ∷ 23 ∷ []) $ free1 ! $ move ! (20 ∷ 21 ∷ []) $ free1 ! $ move ! (18 ∷ 19 ∷ []) $ free1 ! $ move ! (16 ∷ 17 ∷ []) $ free1 ! $ move ! (14 ∷ 15 ∷ []) $ free1 ! $ move ! (12 ∷ 13 ∷ []) $ free1 ! $ move ! (10 ∷ 11 ∷ []) $ free1 ! $
+          assigns ! (of-opd ! (load ! (from ! (stop !)) (look ! 18 refl))) (from ! (stop !)) (init ! 24 refl (typed (t .acc) (t .v) (t .is))) $
+          returns ! (look ! 24 refl) $ forget ! 8 refl $ forget ! 10 refl $ forget ! 16 refl $ forget ! 18 refl $ forget ! 20 refl $ forget ! 22 refl $ forget ! 24 refl $
+          move ! (24 ∷ 25 ∷ []) $ free1 ! $ move ! (22 ∷ 23 ∷ []) $ free1 ! $ move ! (20 ∷ 21 ∷ []) $ free1 ! $ move ! (18 ∷ 19 ∷ []) $ free1 ! $ move ! (16 ∷ 17 ∷ []) $ free1 ! $ move ! (14 ∷ 15 ∷ []) $ free1 ! $ move ! (12 ∷ 13 ∷ []) $ free1 ! $ move ! (10 ∷ 11 ∷ []) $ free1 ! $
           move ! (8 ∷ 9 ∷ []) $ free1 ! $ move ! (6 ∷ 7 ∷ []) $ free1 ! $ move ! (4 ∷ 5 ∷ []) $ free1 ! $ move ! (2 ∷ 3 ∷ []) $ free1 ! $ free0 ! $ by ! (exits (t .acc) (t .v) (t .is) whole-fold)
         where
           past : length ys ≤ t .i
@@ -344,14 +363,74 @@ module _ (TR : Declared) (LR : LL.Laws TR) (CR : LL.Copyables (TR .parts)) (PR :
       looped : (t : Turn) → Sq W (At t) (runs C Λ En rest (atRet En Post))
       looped t = first ! $ blocks ! $ loops ! 𝓣 Nearer Nearer-wf At turns t
 
-    pub walk : (𝓣 : Tables 𝓤 H) → Triple 𝓤 (𝓣 .C #w) (Want 𝓤 H A) → Triple 𝓤 (𝓣 .C #g) (Step 𝓤 H A) → ent 𝓤 (sep 𝓤 (sep 𝓤 (A .lft κ q) (sem 𝓤 H A ftrue)) (sem 𝓤 H A (owns (ShrSlice (named 0) κ R ∷ S ∷ []) x at))) (WpFn 𝓤 H (𝓣 .C) (𝓣 .Λ) function (sliceVal (b, o) n ∷ va ∷ []) Post)
-    walk 𝓣 knownW known =
-        qed W ((‵ (flft κ q) ⊛ ‵ ftrue) ∷ ‵ (owns (ShrSlice (named 0) κ R ∷ S ∷ []) x at) ∷ []) ∵ enter ! (𝓣 .C) (𝓣 .Λ) function (sliceVal (b, o) n ∷ va ∷ []) _ $
-        alloc1 ! (λ l₀. alloc1 ! (λ l₁. alloc1 ! (λ l₂. alloc1 ! (λ l₃. alloc1 ! (λ l₄. alloc1 ! (λ l₅. alloc1 ! (λ l₆. alloc1 ! (λ l₇. alloc1 ! (λ l₈. alloc1 ! (λ l₉. alloc1 ! (λ l₁₀. alloc0 ! $ params1 ! $
-        pass1 ! (init ! 18 refl (tt, (tt, (record { fits = gn .0 }, tt)))) $ pass1 ! (init ! 16 refl (typed a va ga)) $ pass0 ! $
-        assigns ! (of-opd ! (load ! (from ! (stop !)) (look ! 16 refl))) (from ! (stop !)) (init ! 14 refl (typed a va ga)) $
-        assigns ! (of-opd ! (lit ! tt)) (from ! (stop !)) (init ! 12 refl (tt, record { fits = lit< tt })) $
-        move ! (23 ∷ []) $ fsplit ! $ fsplit ! $ move ! (1 ∷ []) $ fsplit ! $ move ! (26 ∷ []) $ split ! $
-        keep ! (3 ∷ 0 ∷ 6 ∷ 7 ∷ 8 ∷ 9 ∷ 10 ∷ 11 ∷ 12 ∷ 13 ∷ 14 ∷ 15 ∷ 16 ∷ 17 ∷ 18 ∷ 19 ∷ 20 ∷ 21 ∷ 22 ∷ 23 ∷ 24 ∷ 25 ∷ 26 ∷ 27 ∷ 2 ∷ 4 ∷ []) $
-        looped 𝓣 knownW known l₀ l₁ l₂ l₃ l₄ l₅ l₆ l₇ l₈ l₉ l₁₀
-        (record { i = 0; acc = a; v = va; below = zero-le; is = ga; inv = refl }))))))))))))
+  module _ {M : Type 1} (𝓤 : URA M) (H : Heap 𝓤) (A : Atoms 𝓤) (W : Given 𝓤 H A) (κ : Lft) (q : Share) (b o : ℕ) (γ : GName) (ys : List (TR .D)) (gn : Room R (length ys)) (a : TS .D) (va : Val) (ga : Is S a (va ∷ [])) (Post : Val → SProp 𝓤)
+      (exits : (r : TS .D) (v : Val) → Is S r (v ∷ []) → r ≡ cond (off a) a (foldl step a ys) → ent 𝓤 (⋆ 𝓤 H A (‵ (Shared κ b o ys) ∷ ‵ (flft κ q) ∷ ‵ (Named γ ys) ∷ ‵ (Sized b o γ ys) ∷ [])) (Post v)) where
+    abbrev given : RefT (List (TR .D)) × ((TS .D) × Unit {0})
+    given = (record { ptr = (b, o); name = γ; now = ys }, (a, tt))
+
+    abbrev vals : List Val × (List Val × Unit {0})
+    vals = (sliceVal (b, o) (length ys) ∷ [], (va ∷ [], tt))
+
+    typedA : Holds (hasTy τS va) × WT va
+    typedA = LL.lawful TS LS 𝓤 H A W .typed a (va ∷ []) ga .0
+
+    abbrev toO : Off 𝓤 H A .Ghost
+    toO = ((tt, tt, tt, (a, tt), (va ∷ [], tt)), tt)
+
+    askedO : ent 𝓤 (emp 𝓤) (Off 𝓤 H A .pre toO)
+    askedO = qed W [] ∵ nothing ! $ owned ! S (Is S) (LL.makes TS PS 𝓤 H A) a _ ga $ fjoin ! $ nothing ! $ join ! $ frame ! $ done !
+
+    saidO : (r : Bool) → ent 𝓤 (ensured 𝓤 H A offEnded (offClauses 𝓤) tt (a, tt) tt r) (fact 𝓤 (r ≡ off a))
+    saidO r = exE 𝓤 _ (λ ws. snd∗ 𝓤 (sem 𝓤 H A (lasts offEnded tt (a, tt) ws)) (fact 𝓤 (r ≡ off a)))
+
+    off-so : (r : Bool) → r ≡ off a → r ≡ true → a ≡ cond (off a) a (foldl step a ys)
+    off-so r e h = ap (λ (k : Bool). cond k a (foldl step a ys)) (sym h ∙ e)
+
+    on-so : (r : Bool) → r ≡ off a → r ≡ false → foldl step a ys ≡ cond (off a) a (foldl step a ys)
+    on-so r e h = ap (λ (k : Bool). cond k a (foldl step a ys)) (sym h ∙ e)
+
+    module _ (𝓣 : Tables 𝓤 H) (knownO : Triple 𝓤 (𝓣 .C #o) (Off 𝓤 H A)) (knownW : Triple 𝓤 (𝓣 .C #w) (Want 𝓤 H A)) (known : Triple 𝓤 (𝓣 .C #g) (Step 𝓤 H A)) where
+      module _ (l₀ l₁ l₂ l₃ l₄ l₅ l₆ l₇ l₈ l₉ l₁₀ l₁₁ : ℕ) where
+        abbrev Ev : Env 𝓤 H
+        Ev = (τS, l₀) ∷ (slice, l₁) ∷ (τS, l₂) ∷ (τS, l₃) ∷ (word, l₄) ∷ (τR, l₅) ∷ (tyBool, l₆) ∷ (word, l₇) ∷ (tyBool, l₈) ∷ (tyPtr, l₉) ∷ (τR, l₁₀) ∷ (tyBool, l₁₁) ∷ []
+
+        -- where the first test has been made
+        abbrev Begun : Bool → List (Item 𝓤)
+        Begun r = ‵ (froom tyBool l₁₁ 0) ∷ ‵ (fdies tyBool l₁₁) ∷ ‵ (froom τR l₁₀ 0) ∷ ‵ (fdies τR l₁₀) ∷ ‵ (froom tyPtr l₉ 0) ∷ ‵ (fdies tyPtr l₉) ∷ ‵ (froom tyBool l₈ 0) ∷ ‵ (fdies tyBool l₈)
+            ∷ ‵ (froom word l₇ 0) ∷ ‵ (fdies word l₇) ∷ ‵ (fat fullShare tyBool l₆ 0 (vbool r)) ∷ ‵ (fdies tyBool l₆) ∷ ‵ (froom τR l₅ 0) ∷ ‵ (fdies τR l₅)
+            ∷ ‵ (froom word l₄ 0) ∷ ‵ (fdies word l₄) ∷ ‵ (froom τS l₃ 0) ∷ ‵ (fdies τS l₃) ∷ ‵ (fat fullShare τS l₂ 0 va) ∷ ‵ (fdies τS l₂)
+            ∷ ‵ (fat fullShare slice l₁ 0 (sliceVal (b, o) (length ys))) ∷ ‵ (fdies slice l₁) ∷ ‵ (froom τS l₀ 0) ∷ ‵ (fdies τS l₀) ∷ (‵ (flft κ q) ⊛ ‵ ftrue) ∷ ‵ (owns (ShrSlice (named 0) κ R ∷ S ∷ []) given vals) ∷ []
+
+        begun : (r : Bool) → r ≡ off a → Sq W (Begun r) (runs (𝓣 .C) (𝓣 .Λ) Ev (seq (condᴹ (copy (place 6 [])) outright skipᴹ) looks) (atRet Ev Post))
+        begun r e = first ! $ branches ! (load ! (from ! (stop !)) (look ! 10 refl)) yes-arm no-arm
+          where
+            yes-arm : Holds r → Sq W (Begun r) (runs (𝓣 .C) (𝓣 .Λ) Ev outright (anyQ (afterSeq 𝓤 H (Wp 𝓤 H (𝓣 .C) (𝓣 .Λ) Ev looks (atReturn 𝓤 H Ev Post)) (atReturn 𝓤 H Ev Post))))
+            yes-arm y =
+                assigns ! (of-opd ! (load ! (from ! (stop !)) (look ! 18 refl))) (from ! (stop !)) (init ! 22 refl typedA) $
+                returns-within ! Post refl (look ! 22 refl) $ forget ! 10 refl $ forget ! 18 refl $ forget ! 20 refl $ forget ! 22 refl $
+                move ! (22 ∷ 23 ∷ []) $ free1 ! $ move ! (20 ∷ 21 ∷ []) $ free1 ! $ move ! (18 ∷ 19 ∷ []) $ free1 ! $ move ! (16 ∷ 17 ∷ []) $ free1 ! $ move ! (14 ∷ 15 ∷ []) $ free1 ! $ move ! (12 ∷ 13 ∷ []) $ free1 ! $ move ! (10 ∷ 11 ∷ []) $ free1 ! $ move ! (8 ∷ 9 ∷ []) $ free1 ! $ move ! (6 ∷ 7 ∷ []) $ free1 ! $ move ! (4 ∷ 5 ∷ []) $ free1 ! $ move ! (2 ∷ 3 ∷ []) $ free1 ! $ move ! (0 ∷ 1 ∷ []) $ free1 ! $ free0 ! $
+                move ! (1 ∷ []) $ fsplit ! $ fsplit ! $ move ! (1 ∷ []) $ fsplit ! $ move ! (4 ∷ []) $ split ! $ keep ! (3 ∷ 0 ∷ 2 ∷ 4 ∷ []) $ by ! (exits a va ga (off-so r e (so-true r y)))
+
+            no-arm : Holds (not r) → Sq W (Begun r) (runs (𝓣 .C) (𝓣 .Λ) Ev skipᴹ (anyQ (afterSeq 𝓤 H (Wp 𝓤 H (𝓣 .C) (𝓣 .Λ) Ev looks (atReturn 𝓤 H Ev Post)) (atReturn 𝓤 H Ev Post))))
+            no-arm y =
+                skips ! $ exec ! (𝓣 .C) (𝓣 .Λ) Ev looks (atRet Ev Post) $ forget ! 10 refl $
+                assigns ! (of-opd ! (load ! (from ! (stop !)) (look ! 18 refl))) (from ! (stop !)) (init ! 16 refl typedA) $
+                assigns ! (of-opd ! (lit ! tt)) (from ! (stop !)) (init ! 14 refl (tt, record { fits = lit< tt })) $
+                move ! (25 ∷ []) $ fsplit ! $ fsplit ! $ move ! (1 ∷ []) $ fsplit ! $ move ! (28 ∷ []) $ split ! $
+                keep ! (3 ∷ 0 ∷ 6 ∷ 7 ∷ 8 ∷ 9 ∷ 10 ∷ 11 ∷ 12 ∷ 13 ∷ 14 ∷ 15 ∷ 16 ∷ 17 ∷ 18 ∷ 19 ∷ 20 ∷ 21 ∷ 22 ∷ 23 ∷ 24 ∷ 25 ∷ 26 ∷ 27 ∷ 28 ∷ 29 ∷ 2 ∷ 4 ∷ []) $
+                looped 𝓤 H A W κ q b o γ ys gn a va ga Post (λ z v is f. exits z v is (f ∙ on-so r e (so-false r y))) 𝓣 knownW known l₀ l₁ l₂ l₃ l₄ l₅ l₆ l₇ l₈ l₉ l₁₀ l₁₁
+                (record { i = 0; acc = a; v = va; below = zero-le; is = ga; inv = refl })
+
+      pub walk : ent 𝓤 (sep 𝓤 (sep 𝓤 (A .lft κ q) (sem 𝓤 H A ftrue)) (sem 𝓤 H A (owns (ShrSlice (named 0) κ R ∷ S ∷ []) given vals))) (WpFn 𝓤 H (𝓣 .C) (𝓣 .Λ) function (sliceVal (b, o) (length ys) ∷ va ∷ []) Post)
+      walk =
+          qed W ((‵ (flft κ q) ⊛ ‵ ftrue) ∷ ‵ (owns (ShrSlice (named 0) κ R ∷ S ∷ []) given vals) ∷ []) ∵ enter ! (𝓣 .C) (𝓣 .Λ) function (sliceVal (b, o) (length ys) ∷ va ∷ []) _ $
+          alloc1 ! (λ l₀. alloc1 ! (λ l₁. alloc1 ! (λ l₂. alloc1 ! (λ l₃. alloc1 ! (λ l₄. alloc1 ! (λ l₅. alloc1 ! (λ l₆. alloc1 ! (λ l₇. alloc1 ! (λ l₈. alloc1 ! (λ l₉. alloc1 ! (λ l₁₀. alloc1 ! (λ l₁₁. alloc0 ! $ params1 ! $
+          pass1 ! (init ! 20 refl (tt, (tt, (record { fits = gn .0 }, tt)))) $ pass1 ! (init ! 18 refl typedA) $ pass0 ! $
+          nothing ! $ use1 W (raw (Off 𝓤 H A .pre toO)) askedO $
+          calls-at ! (fmOf 𝓤 H (W .laws) 𝓣) (Off 𝓤 H A) knownO toO (and-then ! (load ! (from ! (stop !)) (look ! 19 refl)) (no-more !)) (λ u.
+          use1 W (later (some (λ (r : Bool). (‵ ftrue ⊛ ‵ (bool .own r (u ∷ []))) ⊛ raw (ensured 𝓤 H A offEnded (offClauses 𝓤) tt (a, tt) tt r)))) (id⊢ 𝓤 _) $ await ! tt $ pick ! (λ r.
+          split ! $ move ! (1 ∷ []) $ use1 W (raw (fact 𝓤 (r ≡ off a))) (saidO r) $ heard ! (r ≡ off a) (λ e. split ! $ drop ! $
+          peeks ! bool (Is bool) (shows 𝓤 H A bool) r (u ∷ []) (λ is. drop ! $
+          land ! (from ! (stop !)) (init ! 10 refl (bool-lawful 𝓤 H A W .typed r (u ∷ []) is .0)) $
+          rewrite ! 10 (λ (v : Val). ‵ (fat fullShare tyBool l₆ 0 v)) (head-is u (vbool r) is) refl $
+          begun l₀ l₁ l₂ l₃ l₄ l₅ l₆ l₇ l₈ l₉ l₁₀ l₁₁ r e))))))))))))))))

@@ -2,25 +2,28 @@
 use lease::Lease;
 use lease::form;
 ghost use mathlib.Core.Path.{_≡_};
+ghost use mathlib.Core.Bool.{cond};
 ghost use mathlib.Core.List.{foldl};
-ghost use Rattle.leasetable.specs.Folds.{formStart, formWants, formAdd, formTurn};
+ghost use Rattle.leasetable.specs.Folds.{formStart, formOff, formWants, formAdd, formTurn};
 
-// What is known of the records passed: whether they keep the form, the last address, their number.
+// What is known of the records passed: whether they keep the form, and the last address.
 pub struct Form {
     pub ok: bool,
     pub last: u32,
-    pub count: u32,
 }
 
 // Nothing is passed yet.
 pub fn start() -> Form
     ensures { λ r. ⌜ r ≡ formStart ⌝ }
 {
-    Form {
-        ok: true,
-        last: 0,
-        count: 0,
-    }
+    Form { ok: true, last: 0 }
+}
+
+// Every table is looked at.
+fn is_off(a: Form) -> bool
+    ensures { λ r. ⌜ r ≡ formOff a ⌝ }
+{
+    false
 }
 
 // A table that was found to break its form is not looked at further.
@@ -36,27 +39,23 @@ fn with_record(a: Form, x: Lease) -> Form
 {
     let address = x.address;
     if a.last < address {
-        if a.count < 256 {
-            if form::is_well_formed(x) {
-                return Form {
-                    ok: true,
-                    last: address,
-                    count: a.count + 1,
-                };
-            }
+        if form::is_well_formed(x) {
+            return Form {
+                ok: true,
+                last: address,
+            };
         }
     }
-    Form {
-        ok: false,
-        last: 0,
-        count: 0,
-    }
+    Form { ok: false, last: 0 }
 }
 
 // The records of a table.
 pub fn scan(t: &[Lease], a: Form) -> Form
-    ensures { λ r. ⌜ r ≡ foldl formTurn a (now (t .entry)) ⌝ }
+    ensures { λ r. ⌜ r ≡ cond (formOff a) a (foldl formTurn a (now (t .entry))) ⌝ }
 {
+    if is_off(a) {
+        return a;
+    }
     let mut acc = a;
     let mut i = 0;
     while i < t.len() {

@@ -1,137 +1,94 @@
-use Prim.Native.Nat.{_+_}
 use borrow.Author.Tests.{eq-eqb, ne-eqb, le-leb, lt-leb, lt-ltb, le-ltb, not-true, not-false}
 use mathlib.Core.Path.{_≡_, sym, _∙_, ap}
 use native.Mathlib.Omega.{arith}
 use lib.ListN.{length}
-use Rattle.lease.proofs.FormLaws.{tail-of-6}
+use lib.Dec.{eqb}
+use Rattle.lease.proofs.LeadLaws.{tail-broken, tail-of-6}
 use borrow.Author.Needs.{needs}
 use Rattle.lease.proofs.form.is_zero_from_6.Statement.{statement}
 use Rattle.lease.proofs.form.is_zero_from_6.Tie as tie
+use Rattle.lease.proofs.form.is_zero_from_6.Reads as reads
+use Rattle.lease.proofs.form.is_zero_from_6.Lts as lts
+use Rattle.lease.proofs.lead.eight.Reads as eight-reads
+use Rattle.lease.proofs.lead.four.Reads as four-reads
 
-array-read-wide : tie.Need-array-read-wide
-array-read-wide c = search needs
+-- src/form.rt:32:20
+array-read-eight : tie.Need-array-read-eight
+array-read-eight c = search needs
 
-wide-requires : tie.Need-wide-requires
-wide-requires c κs = search needs
+-- src/form.rt:32:26
+array-read-eight-2 : tie.Need-array-read-eight-2
+array-read-eight-2 c = search needs
 
-array-read-wide-2 : tie.Need-array-read-wide-2
-array-read-wide-2 c = search needs
+-- src/form.rt:32:32
+array-read-eight-3 : tie.Need-array-read-eight-3
+array-read-eight-3 c = search needs
 
-wide-requires-2 : tie.Need-wide-requires-2
-wide-requires-2 c κs = search needs
+-- src/form.rt:32:39
+array-read-eight-4 : tie.Need-array-read-eight-4
+array-read-eight-4 c = search needs
 
-add-a : tie.Need-add-a
-add-a c = search needs
+-- src/form.rt:32:46
+array-read-eight-5 : tie.Need-array-read-eight-5
+array-read-eight-5 c = search needs
 
-array-read-wide-3 : tie.Need-array-read-wide-3
-array-read-wide-3 c = search needs
+-- src/form.rt:32:53
+array-read-eight-6 : tie.Need-array-read-eight-6
+array-read-eight-6 c = search needs
 
-wide-requires-3 : tie.Need-wide-requires-3
-wide-requires-3 c κs = search needs
+-- src/form.rt:32:60
+array-read-eight-7 : tie.Need-array-read-eight-7
+array-read-eight-7 c = search needs
 
-add-a-2 : tie.Need-add-a-2
-add-a-2 c = search needs
+-- src/form.rt:32:67
+array-read-eight-8 : tie.Need-array-read-eight-8
+array-read-eight-8 c = search needs
 
-array-read-wide-4 : tie.Need-array-read-wide-4
-array-read-wide-4 c = search needs
+-- src/form.rt:32:8
+eight-requires : tie.Need-eight-requires
+eight-requires c κs = search needs
 
-wide-requires-4 : tie.Need-wide-requires-4
-wide-requires-4 c κs = search needs
-
-add-a-3 : tie.Need-add-a-3
-add-a-3 c = search needs
-
-array-read-wide-5 : tie.Need-array-read-wide-5
-array-read-wide-5 c = search needs
-
-wide-requires-5 : tie.Need-wide-requires-5
-wide-requires-5 c κs = search needs
-
-add-a-4 : tie.Need-add-a-4
-add-a-4 c = search needs
-
-array-read-wide-6 : tie.Need-array-read-wide-6
-array-read-wide-6 c = search needs
-
-wide-requires-6 : tie.Need-wide-requires-6
-wide-requires-6 c κs = search needs
-
-array-read-wide-7 : tie.Need-array-read-wide-7
-array-read-wide-7 c = search needs
-
-wide-requires-7 : tie.Need-wide-requires-7
-wide-requires-7 c κs = search needs
-
-add-b : tie.Need-add-b
-add-b c = search needs
-
-array-read-wide-8 : tie.Need-array-read-wide-8
-array-read-wide-8 c = search needs
-
-wide-requires-8 : tie.Need-wide-requires-8
-wide-requires-8 c κs = search needs
-
-add-b-2 : tie.Need-add-b-2
-add-b-2 c = search needs
-
-array-read-wide-9 : tie.Need-array-read-wide-9
-array-read-wide-9 c = search needs
-
-wide-requires-9 : tie.Need-wide-requires-9
-wide-requires-9 c κs = search needs
-
-add-b-3 : tie.Need-add-b-3
-add-b-3 c = search needs
-
-array-read-wide-10 : tie.Need-array-read-wide-10
-array-read-wide-10 c = search needs
-
-wide-requires-10 : tie.Need-wide-requires-10
-wide-requires-10 c κs = search needs
-
-add-b-4 : tie.Need-add-b-4
-add-b-4 c = search needs
-
-add-result : tie.Need-add-result
-add-result c = search needs
-
+-- src/form.rt:33:9
 returns : tie.Need-returns
 returns c =
-    let s = c .before .before .before .before .before .before .before .before .before .before .args .t1 in
-    let n : length s ≡ 16 = search needs in
-    tail-of-6 s (c .before .before .before .before .before .before .before .before .before .wide .result + c .before .before .before .before .before .before .before .before .wide2 .result + c .before .before .before .before .before .before .before .wide3 .result + c .before .before .before .before .before .before .wide4 .result + c .before .before .before .before .before .wide5 .result + (c .before .before .before .before .wide6 .result + c .before .before .before .wide7 .result + c .before .before .wide8 .result + c .before .wide9 .result + c .wide10 .result)) n (omega (arith, c .before .before .before .before .before .before .before .before .before .wide .ensures .0, c .before .before .before .before .before .before .before .before .wide2 .ensures .0, c .before .before .before .before .before .before .before .wide3 .ensures .0, c .before .before .before .before .before .before .wide4 .ensures .0, c .before .before .before .before .before .wide5 .ensures .0, c .before .before .before .before .wide6 .ensures .0, c .before .before .before .wide7 .ensures .0, c .before .before .wide8 .ensures .0, c .before .wide9 .ensures .0, c .wide10 .ensures .0))
+    let s = c .before .before .args in
+    let e : length (s .t1) ≡ 16 = search needs in
+    sym (tail-broken (s .t1) e (λ z. c .if1 .taken (c .before .eight .ensures ∙ z)))
+
+-- src/form.rt:35:16
+array-read-four : tie.Need-array-read-four
+array-read-four c = search needs
+
+-- src/form.rt:35:22
+array-read-four-2 : tie.Need-array-read-four-2
+array-read-four-2 c = search needs
+
+-- src/form.rt:35:5
+four-requires : tie.Need-four-requires
+four-requires c κs = search needs
+
+-- src/form.rt:29:1
+returns-2 : tie.Need-returns-2
+returns-2 c =
+    let s = c .before .before .before .args in
+    let e : length (s .t1) ≡ 16 = search needs in
+    ap (λ m. eqb m 0) (c .four .ensures .0) ∙ tail-of-6 (s .t1) e (sym (c .before .before .eight .ensures) ∙ c .before .if1 .left)
 
 pub is-zero-from-6-spec : {M : Type 1} → statement M
 is-zero-from-6-spec =
     tie.close
     (tie.spec
-    array-read-wide
-    wide-requires
-    array-read-wide-2
-    wide-requires-2
-    add-a
-    array-read-wide-3
-    wide-requires-3
-    add-a-2
-    array-read-wide-4
-    wide-requires-4
-    add-a-3
-    array-read-wide-5
-    wide-requires-5
-    add-a-4
-    array-read-wide-6
-    wide-requires-6
-    array-read-wide-7
-    wide-requires-7
-    add-b
-    array-read-wide-8
-    wide-requires-8
-    add-b-2
-    array-read-wide-9
-    wide-requires-9
-    add-b-3
-    array-read-wide-10
-    wide-requires-10
-    add-b-4
-    add-result
-    returns)
+    array-read-eight
+    array-read-eight-2
+    array-read-eight-3
+    array-read-eight-4
+    array-read-eight-5
+    array-read-eight-6
+    array-read-eight-7
+    array-read-eight-8
+    eight-requires
+    returns
+    array-read-four
+    array-read-four-2
+    four-requires
+    returns-2)

@@ -1,47 +1,41 @@
 use borrow.Author.Tests.{eq-eqb, ne-eqb, le-leb, lt-leb, lt-ltb, le-ltb, not-true, not-false}
-use mathlib.Core.Path.{_≡_, sym, _∙_}
+use mathlib.Core.Path.{_≡_, sym, _∙_, ap}
 use native.Mathlib.Omega.{arith}
-use lib.ListN.{length, take}
-use lib.Seq.{length-take-le}
+use Rattle.lease.specs.Lead.{value, leading}
+use mathlib.Core.Bool.{and-false}
+use lib.Dec.{leb}
+use Rattle.lease.proofs.LeadLaws.{lead-apart}
 use borrow.Author.Needs.{needs}
 use Rattle.lease.proofs.key.do_16_agree.Statement.{statement}
 use Rattle.lease.proofs.key.do_16_agree.Tie as tie
+use Rattle.lease.proofs.key.do_16_agree.Reads as reads
+use Rattle.lease.proofs.key.do_16_agree.Lts as lts
+use Rattle.lease.proofs.key.do_16_match.Reads as do-16-match-reads
+use Rattle.lease.proofs.lead.lead_16.Reads as lead-16-reads
+use Rattle.lease.proofs.lead.lead_64.Reads as lead-64-reads
 
+-- src/key.rt:51:8
+lead-16-requires : tie.Need-lead-16-requires
+lead-16-requires c κs = search needs
+
+-- src/key.rt:51:31
+lead-64-requires : tie.Need-lead-64-requires
+lead-64-requires c κs = search needs
+
+-- src/key.rt:52:9
 returns : tie.Need-returns
-returns c = simp (lt-leb _ _ (c .if1 .taken))
-
-array-share-prefix-a : tie.Need-array-share-prefix-a
-array-share-prefix-a c = search needs
-
-slice-aggregate-same : tie.Need-slice-aggregate-same
-slice-aggregate-same c =
-    let s = c .before .before .args in
-    let e : length (s .t2) ≡ 16 = search needs in
-    sym (length-take-le (s .n) (s .t2) (omega arith))
-
-array-share-prefix-b : tie.Need-array-share-prefix-b
-array-share-prefix-b c = search needs
-
-slice-aggregate-same-2 : tie.Need-slice-aggregate-same-2
-slice-aggregate-same-2 c =
+returns c =
     let s = c .before .before .before .args in
-    let e : length (s .t3) ≡ 64 = search needs in
-    sym (length-take-le (s .n) (s .t3) (omega arith))
+    rw (lead-apart (s .n) (s .a) (s .b) (λ e. c .if1 .taken (c .before .before .lead-16 .ensures ∙ e ∙ sym (c .before .lead-64 .ensures)))) (sym (and-false (leb (s .n) 16)))
 
-same-requires : tie.Need-same-requires
-same-requires c κs = search needs
+-- src/key.rt:54:5
+do-16-match-requires : tie.Need-do-16-match-requires
+do-16-match-requires c κs = search needs
 
+-- src/key.rt:48:1
 returns-2 : tie.Need-returns-2
-returns-2 c = simp (le-leb _ _ (c .before .before .before .if1 .left)) (c .same .ensures)
+returns-2 c = search needs
 
 pub do-16-agree-spec : {M : Type 1} → statement M
 do-16-agree-spec =
-    tie.close
-    (tie.spec
-    returns
-    array-share-prefix-a
-    slice-aggregate-same
-    array-share-prefix-b
-    slice-aggregate-same-2
-    same-requires
-    returns-2)
+    tie.close (tie.spec lead-16-requires lead-64-requires returns do-16-match-requires returns-2)

@@ -14,18 +14,18 @@ returns c = simp (sym (c .before .is-moment .ensures) ∙ not-true (c .before .i
 
 returns-2 : tie.Need-returns-2
 unfolding askedAt
-returns-2 c = simp (sym (c .before .before .before .is-moment .ensures) ∙ not-false (c .before .before .before .is-moment .result) (c .before .before .if1 .left), not-true (c .before .before .before .before .before .args .table .ok) (c .if2 .taken))
+returns-2 c = simp (sym (c .before .before .is-moment .ensures) ∙ not-false (c .before .before .is-moment .result) (c .before .if1 .left), not-true (c .before .before .before .before .args .ok) (c .if2 .taken))
 
 returns-3 : tie.Need-returns-3
 unfolding askedAt
-returns-3 c = simp (sym (c .before .before .before .before .is-moment .ensures) ∙ not-false (c .before .before .before .before .is-moment .result) (c .before .before .before .if1 .left), not-false (c .before .before .before .before .before .before .args .table .ok) (c .before .if2 .left), lt-ltb _ _ (c .if3 .taken))
+returns-3 c = simp (sym (c .before .before .before .is-moment .ensures) ∙ not-false (c .before .before .before .is-moment .result) (c .before .before .if1 .left), not-false (c .before .before .before .before .before .args .ok) (c .before .if2 .left), lt-ltb _ _ (c .if3 .taken))
 
 read-requires : tie.Need-read-requires
 read-requires c κs = search needs
 
 returns-4 : tie.Need-returns-4
 unfolding askedAt
-returns-4 c = simp (sym (c .before .before .before .before .before .is-moment .ensures) ∙ not-false (c .before .before .before .before .before .is-moment .result) (c .before .before .before .before .if1 .left), not-false (c .before .before .before .before .before .before .before .args .table .ok) (c .before .before .if2 .left), le-ltb _ _ (c .before .if3 .left)) (c .read .ensures)
+returns-4 c = simp (sym (c .before .before .before .before .is-moment .ensures) ∙ not-false (c .before .before .before .before .is-moment .result) (c .before .before .before .if1 .left), not-false (c .before .before .before .before .before .before .args .ok) (c .before .before .if2 .left), le-ltb _ _ (c .before .if3 .left)) (c .read .ensures)
 
 pub first-refusal-spec : {M : Type 1} → statement M
 first-refusal-spec =

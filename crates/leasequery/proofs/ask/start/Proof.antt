@@ -1,12 +1,11 @@
 use borrow.Author.Tests.{eq-eqb, ne-eqb, le-leb, lt-leb, lt-ltb, le-ltb, not-true, not-false}
 use mathlib.Core.Path.{_≡_, sym, _∙_, ap, refl}
 use Rattle.leasequery.specs.Stages.{huntStart}
-use Rattle.lease.specs.Lease.{noLease}
 use Rattle.leasequery.proofs.ask.start.Statement.{statement}
 use Rattle.leasequery.proofs.ask.start.Tie as tie
 
 returns : tie.Need-returns
-unfolding huntStart noLease
+unfolding huntStart
 returns c = refl
 
 pub start-spec : {M : Type 1} → statement M

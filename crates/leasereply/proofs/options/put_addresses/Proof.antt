@@ -26,6 +26,9 @@ mul-rank c = search needs
 array-copy-out-rank : tie.Need-array-copy-out-rank Inv-loop μ-loop
 array-copy-out-rank c = search needs
 
+low-32-requires : tie.Need-low-32-requires Inv-loop μ-loop
+low-32-requires c κs = search needs
+
 put-u32-requires : tie.Need-put-u32-requires Inv-loop μ-loop
 put-u32-requires c κs = search needs
 
@@ -37,8 +40,11 @@ loop-less c = search needs
 
 loop-again : tie.Need-loop-again Inv-loop μ-loop
 loop-again c =
-    let e : length (c .before .before .before .before .before .before .before .before .args .t3) ≡ 63 = search needs in
-    (omega arith, omega arith, flat-more (c .before .before .before .before .before .before .before .before .args .t3) (c .before .before .before .before .before .before .loop .i) (omega arith) (c .before .before .before .before .before .before .loop .inv .2) (c .before .before .put-u32 .ensures))
+    let s = c .before .before .before .before .before .before .before .before .before .args in
+    let l = c .before .before .before .before .before .before .before .loop in
+    let e : length (s .t3) ≡ 63 = search needs in
+    let w = rw (c .before .before .before .low-32 .ensures) at (c .before .before .put-u32 .ensures) in
+    (omega arith, omega arith, flat-more (s .t3) (l .i) (omega arith) (l .inv .2) w)
 
 same-length : tie.Need-same-length Inv-loop μ-loop
 same-length c = omega arith
@@ -57,6 +63,7 @@ put-addresses-spec =
     loop-holds
     mul-rank
     array-copy-out-rank
+    low-32-requires
     put-u32-requires
     add-i
     loop-less

@@ -1,33 +1,37 @@
-use borrow.Author.Tests.{eq-eqb, ne-eqb, le-leb, lt-leb, lt-ltb, le-ltb, not-true, not-false}
-use mathlib.Core.Path.{_≡_, sym, _∙_, ap, refl}
-use Rattle.leasetable.specs.Folds.{huntWants}
+use borrow.Author.Tests.{not-true, not-false}
+use mathlib.Core.Path.{_≡_, sym, _∙_}
+use mathlib.Core.Bool.{true, false, and-false, and-true}
+use Rattle.lease.specs.Lease.{activeAt}
+use Rattle.leasetable.specs.Folds.{clientHas}
 use borrow.Author.Needs.{needs}
 use Rattle.leasetable.proofs.hunt.does_want.Statement.{statement}
 use Rattle.leasetable.proofs.hunt.does_want.Tie as tie
+use Rattle.leasetable.proofs.hunt.does_want.Reads as reads
+use Rattle.leasetable.proofs.hunt.does_want.Lts as lts
+use Rattle.lease.proofs.key.is_active.Reads as is-active-reads
+use Rattle.leasetable.proofs.hunt.has_client.Reads as has-client-reads
 
-returns : tie.Need-returns
-unfolding huntWants
-returns c = simp (eq-eqb _ _ (c .before .before .if1 .taken), ne-eqb _ _ (c .if2 .taken))
-
-returns-2 : tie.Need-returns-2
-unfolding huntWants
-returns-2 c = simp (eq-eqb _ _ (c .before .before .before .before .if1 .taken), eq-eqb _ _ (c .before .before .if2 .left))
-
-is-active-requires : tie.Need-is-active-requires
-is-active-requires c κs = search needs
-
-returns-3 : tie.Need-returns-3
-unfolding huntWants
-returns-3 c = simp (ne-eqb _ _ (c .before .before .before .if1 .left), sym (c .before .is-active .ensures) ∙ not-true (c .before .is-active .result) (c .if3 .taken))
-
+-- src/hunt.rt:54:9
 has-client-requires : tie.Need-has-client-requires
 has-client-requires c κs = search needs
 
-returns-4 : tie.Need-returns-4
-unfolding huntWants
-returns-4 c = simp (ne-eqb _ _ (c .before .before .before .before .if1 .left), sym (c .before .before .is-active .ensures) ∙ not-false (c .before .before .is-active .result) (c .before .if3 .left)) (c .has-client .ensures)
+-- src/hunt.rt:55:9
+returns : tie.Need-returns
+returns c =
+    let s = c .before .before .before .args in
+    let e : clientHas (s .h .key) (s .x) ≡ false = sym (c .before .has-client .ensures) ∙ not-true (c .before .has-client .result) (c .if1 .taken) in
+    rw e (sym (and-false (activeAt (s .h .clock) (s .x))))
+
+-- src/hunt.rt:58:5
+is-active-requires : tie.Need-is-active-requires
+is-active-requires c κs = search needs
+
+-- src/hunt.rt:50:1
+returns-2 : tie.Need-returns-2
+returns-2 c =
+    let s = c .before .before .before .before .before .args in
+    let e : clientHas (s .h .key) (s .x) ≡ true = sym (c .before .before .before .has-client .ensures) ∙ not-false (c .before .before .before .has-client .result) (c .before .before .if1 .left) in
+    rw e (c .is-active .ensures ∙ sym (and-true (activeAt (s .h .clock) (s .x))))
 
 pub does-want-spec : {M : Type 1} → statement M
-does-want-spec =
-    tie.close
-    (tie.spec returns returns-2 is-active-requires returns-3 has-client-requires returns-4)
+does-want-spec = tie.close (tie.spec has-client-requires returns is-active-requires returns-2)

@@ -9,7 +9,7 @@ use Rattle.leasetable.proofs.hunt.insert.Statement.{statement}
 use Rattle.leasetable.proofs.hunt.insert.Tie as tie
 
 abbrev Inv-loop : tie.InvT-loop
-Inv-loop kept list₀ left₀ i₀ list left i = (i ≤ kept) × (length list ≡ 63) × (whole kept list₀ left₀ 0 ≡ whole kept list left i)
+Inv-loop kept list₀ left₀ i₀ list left i = (i ≤ kept) × (length list ≡ 4) × (whole kept list₀ left₀ 0 ≡ whole kept list left i)
 
 abbrev μ-loop : tie.MeasureT-loop
 μ-loop kept list₀ left₀ i₀ list left i = kept - i
@@ -44,10 +44,10 @@ loop-again c =
     let n = c .before .before .before .before .before .args .kept in
     cases (c .if1 .came)
     (λ w.
-    let t = turn-swaps n (l .list) (c .if1 .list) (l .left) (c .if1 .left) (l .i) (c .before .before .before .loop-test .taken) (omega arith) (l .inv .1) (sym (c .before .is-before .ensures) ∙ w .0 .taken) (w .1) (w .2) in
+    let t = turn-swaps 4 n (l .list) (c .if1 .list) (l .left) (c .if1 .left) (l .i) (c .before .before .before .loop-test .taken) (omega arith) (l .inv .1) (sym (c .before .is-before .ensures) ∙ w .0 .taken) (w .1) (w .2) in
     (omega arith, t .0, l .inv .2 ∙ t .1))
     (λ w.
-    let t = turn-goes-on n (l .list) (c .if1 .list) (l .left) (c .if1 .left) (l .i) (c .before .before .before .loop-test .taken) (omega arith) (l .inv .1) (sym (c .before .is-before .ensures) ∙ w .0 .left) (w .1) (w .2) in
+    let t = turn-goes-on 4 n (l .list) (c .if1 .list) (l .left) (c .if1 .left) (l .i) (c .before .before .before .loop-test .taken) (omega arith) (l .inv .1) (sym (c .before .is-before .ensures) ∙ w .0 .left) (w .1) (w .2) in
     (omega arith, t .0, l .inv .2 ∙ t .1))
 
 mul-list-2 : tie.Need-mul-list-2 Inv-loop μ-loop
@@ -61,14 +61,14 @@ returns c =
     let l = c .before .before .loop in
     let s = c .before .before .before .args in
     let e : l .i ≡ s .kept = omega arith in
-    kept (s .kept) (l .list) (l .left) (c .if2 .taken) (l .inv .1) ∙ sym (ap (take 63) (l .inv .2 ∙ ap (whole (s .kept) (l .list) (l .left)) e)) ∙ sym (starts (s .kept) (s .ranks) (s .e))
+    kept 4 (s .kept) (l .list) (l .left) (c .if2 .taken) (l .inv .1) ∙ sym (ap (take 4) (l .inv .2 ∙ ap (whole (s .kept) (l .list) (l .left)) e)) ∙ sym (starts 4 (s .kept) (s .ranks) (s .e))
 
 returns-2 : tie.Need-returns-2 Inv-loop μ-loop
 returns-2 c =
     let l = c .before .before .loop in
     let s = c .before .before .before .args in
     let e : l .i ≡ s .kept = omega arith in
-    dropped (s .kept) (l .list) (l .left) (omega arith) (l .inv .1) ∙ sym (ap (take 63) (l .inv .2 ∙ ap (whole (s .kept) (l .list) (l .left)) e)) ∙ sym (starts (s .kept) (s .ranks) (s .e))
+    dropped 4 (s .kept) (l .list) (l .left) (omega arith) (l .inv .1) ∙ sym (ap (take 4) (l .inv .2 ∙ ap (whole (s .kept) (l .list) (l .left)) e)) ∙ sym (starts 4 (s .kept) (s .ranks) (s .e))
 
 pub insert-spec : {M : Type 1} → statement M
 insert-spec =

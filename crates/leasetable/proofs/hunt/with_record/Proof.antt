@@ -15,18 +15,15 @@ rank-of-requires c κs = search needs
 insert-requires : tie.Need-insert-requires
 insert-requires c κs = search needs
 
-best-of-requires : tie.Need-best-of-requires
-best-of-requires c κs = search needs
-
 one-more-requires : tie.Need-one-more-requires
 one-more-requires c κs = search needs
 
 returns-2 : tie.Need-returns-2
 unfolding huntAdd
 returns-2 c =
-    let s = c .before .before .before .before .before .before .before .before .before .before .args .h in
-    let i = c .before .before .before .insert .ensures ∙ ap (λ r. inserted (s .kept) r (s .ranks)) (c .before .before .before .before .rank-of .ensures) in
-    simp (le-ltb _ _ (c .before .before .before .before .before .before .before .before .if1 .left), sym (c .one-more .ensures), sym (c .before .best-of .ensures), sym i)
+    let s = c .before .before .before .before .before .before .before .before .args .h in
+    let i = c .before .insert .ensures ∙ ap (λ r. inserted 4 (s .kept) r (s .ranks)) (c .before .before .rank-of .ensures) in
+    simp (le-ltb _ _ (c .before .before .before .before .before .before .if1 .left), sym (c .one-more .ensures), sym i)
 
 pub with-record-spec : {M : Type 1} → statement M
 with-record-spec =
@@ -35,6 +32,5 @@ with-record-spec =
     returns
     rank-of-requires
     insert-requires
-    best-of-requires
     one-more-requires
     returns-2)

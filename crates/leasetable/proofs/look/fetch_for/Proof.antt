@@ -1,0 +1,35 @@
+use borrow.Author.Tests.{eq-eqb, ne-eqb, le-leb, lt-leb, lt-ltb, le-ltb, not-true, not-false}
+use mathlib.Core.Path.{_≡_, sym, _∙_, ap, refl}
+use Rattle.leasetable.specs.Folds.{fetching}
+use borrow.Author.Needs.{needs}
+use Rattle.leasetable.proofs.look.fetch_for.Statement.{statement}
+use Rattle.leasetable.proofs.look.fetch_for.Tie as tie
+use Rattle.leasetable.proofs.look.fetch_for.Reads as reads
+use Rattle.leasetable.proofs.look.fetch_for.Lts as lts
+use Rattle.leasetable.proofs.look.no_lease.Reads as no-lease-reads
+
+-- src/look.rt:90:9
+no-lease-requires : tie.Need-no-lease-requires
+no-lease-requires c κs = search needs
+
+-- src/look.rt:95:22
+cast-t7 : tie.Need-cast-t7
+cast-t7 c = search needs
+
+-- src/look.rt:93:9
+returns : tie.Need-returns
+unfolding fetching
+returns c = simp (eq-eqb _ _ (c .before .if1 .taken), sym (c .before .before .before .before .no-lease .ensures))
+
+-- src/look.rt:100:17
+array-copy-out-first : tie.Need-array-copy-out-first
+array-copy-out-first c = search needs
+
+-- src/look.rt:87:1
+returns-2 : tie.Need-returns-2
+unfolding fetching
+returns-2 c = simp (ne-eqb _ _ (c .before .before .before .if1 .left), sym (c .before .before .before .before .before .before .no-lease .ensures))
+
+pub fetch-for-spec : {M : Type 1} → statement M
+fetch-for-spec =
+    tie.close (tie.spec no-lease-requires cast-t7 returns array-copy-out-first returns-2)
