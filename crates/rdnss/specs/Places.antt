@@ -3,6 +3,7 @@ use mathlib.Core.Bool.{Bool, true, cond}
 use mathlib.Core.List.{List, [], _∷_, _++_, map}
 use mathlib.Core.Path.{_≡_}
 use Prim.Native.Nat.{ℕ, zero, suc, _*_, _≤_}
+use lib.Dec.{leb}
 use lib.ListN.{length, take, drop}
 use Rattle.clock.specs.declared.Moment.{Moment}
 use Rattle.rdnss.specs.Entries.{Kind, Marked, unmarked, oneOf}
@@ -10,6 +11,7 @@ use Rattle.rdnss.specs.Area.{lengthOf}
 use Rattle.rdnss.specs.ServerList.{held, packed}
 use Rattle.rdnss.specs.declared.Server.{Server}
 use Rattle.rdnss.specs.declared.ServerList.{ServerList}
+use Rattle.rdnss.specs.declared.list.Candidate.{Candidate}
 use Rattle.rdnss.specs.declared.option.Placed.{Placed}
 
 module _ {E : Type 0} where
@@ -37,6 +39,10 @@ module _ {E : Type 0} where
 unfoldable pub evictPlace : {K X E : Type 0} → Kind K X E → List E → ℕ
 evictPlace kind [] = 0
 evictPlace kind (e ∷ l) = cond (oneOf (λ d. kind .noLater d e) l) (suc (evictPlace kind l)) 0
+
+-- The candidate for eviction, or the entry at a place in front of it if that one expires before it.
+abbrev pub earlierOf : Candidate → Server → ℕ → Candidate
+earlierOf c e at = cond (leb (c .expiry .0) (e .expiry .0)) c (record { at = at; expiry = e .expiry })
 
 -- The list has its entries in its places, the others blank.
 pub record InPlaces (list : ServerList) : Type 0 where
