@@ -4,12 +4,13 @@ use crate::Server;
 use crate::ServerList;
 use clock::Moment;
 ghost use mathlib.Core.Path.{_≡_};
-ghost use mathlib.Core.Bool.{_&&_};
-ghost use Prim.Native.Nat.{_≤_, _<_};
+ghost use mathlib.Core.Bool.{_&&_, cond};
+ghost use Prim.Native.Nat.{_+_, _≤_, _<_, min};
 ghost use lib.Dec.{ltb};
+ghost use lib.ListN.{drop};
 ghost use Rattle.clock.specs.Clock.{isPast};
-ghost use Rattle.rdnss.specs.Entries.{isAbout};
-ghost use Rattle.rdnss.specs.ServerList.{servers, held, packed, expires, unexpired};
+ghost use Rattle.rdnss.specs.Entries.{isAbout, oneOf};
+ghost use Rattle.rdnss.specs.ServerList.{servers, held, packed, blank, expires, unexpired};
 ghost use Rattle.rdnss.specs.Places.{place, insertAt, removeAt, earlierOf, evictPlace, InPlaces};
 
 // Whether an entry is about an address.
@@ -27,8 +28,8 @@ fn is_expired(e: Server, clock: Moment) -> bool
     clock::is_past(e.expiry, clock)
 }
 
-// The list at a new clock, without the entries that expired before it.
-pub(crate) fn without_expired(l: ServerList, clock: Moment) -> ServerList
+// The entries that have not expired before a new clock, each put behind those found before it.
+fn filtered(l: ServerList, clock: Moment) -> ServerList
     requires { ⌜ l .count ≤ 8 ⌝ }
     ensures { λ r. ⌜ r ≡ packed clock (unexpired clock (held l)) ⌝ }
 {
@@ -47,6 +48,97 @@ pub(crate) fn without_expired(l: ServerList, clock: Moment) -> ServerList
     out
 }
 
+// Whether the entry at a place of a list of n entries has expired at a clock. A place past the count
+// holds none.
+fn is_gone(e: Server, at: usize, n: usize, clock: Moment) -> bool
+    ensures { λ r. ⌜ r ≡ (ltb at n && isPast (expires e) clock) ⌝ }
+{
+    if n <= at {
+        return false;
+    }
+    is_expired(e, clock)
+}
+
+// Whether one of the entries has expired at a clock.
+fn is_any_gone(l: ServerList, clock: Moment) -> bool
+    requires { ⌜ l .count ≤ 8 ⌝ }
+    ensures { λ r. ⌜ r ≡ oneOf (λ e. isPast (expires e) clock) (held l) ⌝ }
+{
+    let n = l.count;
+    if is_gone(l.entries[0], 0, n, clock) {
+        return true;
+    }
+    if is_gone(l.entries[1], 1, n, clock) {
+        return true;
+    }
+    if is_gone(l.entries[2], 2, n, clock) {
+        return true;
+    }
+    if is_gone(l.entries[3], 3, n, clock) {
+        return true;
+    }
+    if is_gone(l.entries[4], 4, n, clock) {
+        return true;
+    }
+    if is_gone(l.entries[5], 5, n, clock) {
+        return true;
+    }
+    if is_gone(l.entries[6], 6, n, clock) {
+        return true;
+    }
+    if is_gone(l.entries[7], 7, n, clock) {
+        return true;
+    }
+    false
+}
+
+// The entry at a place of a list of n entries, and zeros past the count.
+fn held_or_blank(e: Server, at: usize, n: usize) -> Server
+    ensures { λ r. ⌜ r ≡ cond (ltb at n) e blank ⌝ }
+{
+    if at < n {
+        return e;
+    }
+    Server {
+        address: Address6 { octets: [0; 16] },
+        expiry: Moment(0),
+    }
+}
+
+// The list at a new clock, with all its entries.
+fn at_clock(l: ServerList, clock: Moment) -> ServerList
+    requires { ⌜ l .count ≤ 8 ⌝ }
+    ensures { λ r. ⌜ r ≡ packed clock (held l) ⌝ }
+{
+    let n = l.count;
+    let e0 = held_or_blank(l.entries[0], 0, n);
+    let e1 = held_or_blank(l.entries[1], 1, n);
+    let e2 = held_or_blank(l.entries[2], 2, n);
+    let e3 = held_or_blank(l.entries[3], 3, n);
+    let e4 = held_or_blank(l.entries[4], 4, n);
+    let e5 = held_or_blank(l.entries[5], 5, n);
+    let e6 = held_or_blank(l.entries[6], 6, n);
+    let e7 = held_or_blank(l.entries[7], 7, n);
+    let entries = [e0, e1, e2, e3, e4, e5, e6, e7];
+    ServerList {
+        entries: entries,
+        count: n,
+        clock: clock,
+    }
+}
+
+// The list at a new clock, without the entries that expired before it. Mostly none did, and then no
+// entry moves.
+pub(crate) fn without_expired(l: ServerList, clock: Moment) -> ServerList
+    requires { ⌜ l .count ≤ 8 ⌝ }
+    ensures { λ r. ⌜ r ≡ packed clock (unexpired clock (held l)) ⌝ }
+{
+    if is_any_gone(l, clock) {
+        return filtered(l, clock);
+    }
+    at_clock(l, clock)
+}
+
 // Whether the entry at a place of a list of n entries is about an address. A place past the count
 // holds none.
 fn is_here(e: Server, at: usize, n: usize, a: Address6) -> bool
@@ -56,6 +148,28 @@ fn is_here(e: Server, at: usize, n: usize, a: Address6) -> bool
         return false;
     }
     is_about(e, a)
+}
+
+// The place of the first entry about an address, from the fifth entry on; the count where there is
+// none.
+fn find_behind(l: ServerList, a: Address6) -> usize
+    requires { ⌜ l .count ≤ 8 ⌝ }
+    ensures { λ r. ⌜ r ≡ min 4 (l .count) + place (isAbout servers a) (drop 4 (held l)) ⌝ }
+{
+    let n = l.count;
+    if is_here(l.entries[4], 4, n, a) {
+        return 4;
+    }
+    if is_here(l.entries[5], 5, n, a) {
+        return 5;
+    }
+    if is_here(l.entries[6], 6, n, a) {
+        return 6;
+    }
+    if is_here(l.entries[7], 7, n, a) {
+        return 7;
+    }
+    n
 }
 
 // The place of the first entry about an address; the count where there is none. Each place is read
@@ -77,19 +191,7 @@ pub(crate) fn find(l: ServerList, a: Address6) -> usize
     if is_here(l.entries[3], 3, n, a) {
         return 3;
     }
-    if is_here(l.entries[4], 4, n, a) {
-        return 4;
-    }
-    if is_here(l.entries[5], 5, n, a) {
-        return 5;
-    }
-    if is_here(l.entries[6], 6, n, a) {
-        return 6;
-    }
-    if is_here(l.entries[7], 7, n, a) {
-        return 7;
-    }
-    n
+    find_behind(l, a)
 }
 
 // Without the entry at a place: those behind it move up.

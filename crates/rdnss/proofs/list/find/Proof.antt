@@ -3,13 +3,15 @@ use mathlib.Core.Path.{_∙_, sym}
 use native.Mathlib.Omega.{arith}
 use lib.ListN.{length, length-map}
 use Rattle.rdnss.specs.Entries.{isAbout}
-use Rattle.rdnss.specs.ServerList.{servers}
-use Rattle.rdnss.proofs.ChainLaws.{Missed, missed-none, miss, hit, missed-all}
+use Rattle.rdnss.specs.ServerList.{servers, held}
+use Rattle.rdnss.specs.Places.{place}
+use Rattle.rdnss.proofs.ChainLaws.{Missed, missed-none, miss, hit}
 use borrow.Author.Needs.{needs}
 use Rattle.rdnss.proofs.list.find.Statement.{statement}
 use Rattle.rdnss.proofs.list.find.Tie as tie
 use Rattle.rdnss.proofs.list.find.Reads as reads
 use Rattle.rdnss.proofs.list.find.Lts as lts
+use Rattle.rdnss.proofs.list.find_behind.Reads as find-behind-reads
 use Rattle.rdnss.proofs.list.is_here.Reads as is-here-reads
 
 room : (c : tie.After-is-here) → c .before .before .args .t1 .count ≤ length (c .before .before .args .t1 .entries)
@@ -19,43 +21,23 @@ room c =
 
 missed-1 : (c : tie.Else1) →
     let a = c .before .before .before .args in
-    Missed (isAbout servers (a .a)) (a .t1 .entries) (a .t1 .count) 1
-missed-1 c = miss _ _ _ (room (c .before)) 0 _ (missed-none _ _ _) (sym (c .before .is-here .ensures) ∙ c .if1 .left)
+    Missed (isAbout servers (a .a)) (a .t1 .entries) (a .t1 .count) (place (isAbout servers (a .a)) (held (a .t1))) 1
+missed-1 c = miss _ _ _ _ (room (c .before)) 0 _ (missed-none _ _ _) (sym (c .before .is-here .ensures) ∙ c .if1 .left)
 
 missed-2 : (c : tie.Else2) →
     let a = c .before .before .before .before .before .before .args in
-    Missed (isAbout servers (a .a)) (a .t1 .entries) (a .t1 .count) 2
-missed-2 c = miss _ _ _ (room (c .before .before .before .before)) 1 _ (missed-1 (c .before .before .before)) (sym (c .before .is-here2 .ensures) ∙ c .if2 .left)
+    Missed (isAbout servers (a .a)) (a .t1 .entries) (a .t1 .count) (place (isAbout servers (a .a)) (held (a .t1))) 2
+missed-2 c = miss _ _ _ _ (room (c .before .before .before .before)) 1 _ (missed-1 (c .before .before .before)) (sym (c .before .is-here2 .ensures) ∙ c .if2 .left)
 
 missed-3 : (c : tie.Else3) →
     let a = c .before .before .before .before .before .before .before .before .before .args in
-    Missed (isAbout servers (a .a)) (a .t1 .entries) (a .t1 .count) 3
-missed-3 c = miss _ _ _ (room (c .before .before .before .before .before .before .before)) 2 _ (missed-2 (c .before .before .before)) (sym (c .before .is-here3 .ensures) ∙ c .if3 .left)
+    Missed (isAbout servers (a .a)) (a .t1 .entries) (a .t1 .count) (place (isAbout servers (a .a)) (held (a .t1))) 3
+missed-3 c = miss _ _ _ _ (room (c .before .before .before .before .before .before .before)) 2 _ (missed-2 (c .before .before .before)) (sym (c .before .is-here3 .ensures) ∙ c .if3 .left)
 
 missed-4 : (c : tie.Else4) →
     let a = c .before .before .before .before .before .before .before .before .before .before .before .before .args in
-    Missed (isAbout servers (a .a)) (a .t1 .entries) (a .t1 .count) 4
-missed-4 c = miss _ _ _ (room (c .before .before .before .before .before .before .before .before .before .before)) 3 _ (missed-3 (c .before .before .before)) (sym (c .before .is-here4 .ensures) ∙ c .if4 .left)
-
-missed-5 : (c : tie.Else5) →
-    let a = c .before .before .before .before .before .before .before .before .before .before .before .before .before .before .before .args in
-    Missed (isAbout servers (a .a)) (a .t1 .entries) (a .t1 .count) 5
-missed-5 c = miss _ _ _ (room (c .before .before .before .before .before .before .before .before .before .before .before .before .before)) 4 _ (missed-4 (c .before .before .before)) (sym (c .before .is-here5 .ensures) ∙ c .if5 .left)
-
-missed-6 : (c : tie.Else6) →
-    let a = c .before .before .before .before .before .before .before .before .before .before .before .before .before .before .before .before .before .before .args in
-    Missed (isAbout servers (a .a)) (a .t1 .entries) (a .t1 .count) 6
-missed-6 c = miss _ _ _ (room (c .before .before .before .before .before .before .before .before .before .before .before .before .before .before .before .before)) 5 _ (missed-5 (c .before .before .before)) (sym (c .before .is-here6 .ensures) ∙ c .if6 .left)
-
-missed-7 : (c : tie.Else7) →
-    let a = c .before .before .before .before .before .before .before .before .before .before .before .before .before .before .before .before .before .before .before .before .before .args in
-    Missed (isAbout servers (a .a)) (a .t1 .entries) (a .t1 .count) 7
-missed-7 c = miss _ _ _ (room (c .before .before .before .before .before .before .before .before .before .before .before .before .before .before .before .before .before .before .before)) 6 _ (missed-6 (c .before .before .before)) (sym (c .before .is-here7 .ensures) ∙ c .if7 .left)
-
-missed-8 : (c : tie.Else8) →
-    let a = c .before .before .before .before .before .before .before .before .before .before .before .before .before .before .before .before .before .before .before .before .before .before .before .before .args in
-    Missed (isAbout servers (a .a)) (a .t1 .entries) (a .t1 .count) 8
-missed-8 c = miss _ _ _ (room (c .before .before .before .before .before .before .before .before .before .before .before .before .before .before .before .before .before .before .before .before .before .before)) 7 _ (missed-7 (c .before .before .before)) (sym (c .before .is-here8 .ensures) ∙ c .if8 .left)
+    Missed (isAbout servers (a .a)) (a .t1 .entries) (a .t1 .count) (place (isAbout servers (a .a)) (held (a .t1))) 4
+missed-4 c = miss _ _ _ _ (room (c .before .before .before .before .before .before .before .before .before .before)) 3 _ (missed-3 (c .before .before .before)) (sym (c .before .is-here4 .ensures) ∙ c .if4 .left)
 
 element-copy-out-is-here : tie.Need-element-copy-out-is-here
 element-copy-out-is-here c = search needs
@@ -64,7 +46,7 @@ is-here-requires : tie.Need-is-here-requires
 is-here-requires c κs = search needs
 
 returns : tie.Need-returns
-returns c = hit _ _ _ (room (c .before)) 0 _ (missed-none _ _ _) (sym (c .before .is-here .ensures) ∙ c .if1 .taken)
+returns c = hit _ _ _ _ (room (c .before)) 0 _ (missed-none _ _ _) (sym (c .before .is-here .ensures) ∙ c .if1 .taken)
 
 element-copy-out-is-here-2 : tie.Need-element-copy-out-is-here-2
 element-copy-out-is-here-2 c = search needs
@@ -73,7 +55,7 @@ is-here-requires-2 : tie.Need-is-here-requires-2
 is-here-requires-2 c κs = search needs
 
 returns-2 : tie.Need-returns-2
-returns-2 c = hit _ _ _ (room (c .before .before .before .before)) 1 _ (missed-1 (c .before .before .before)) (sym (c .before .is-here2 .ensures) ∙ c .if2 .taken)
+returns-2 c = hit _ _ _ _ (room (c .before .before .before .before)) 1 _ (missed-1 (c .before .before .before)) (sym (c .before .is-here2 .ensures) ∙ c .if2 .taken)
 
 element-copy-out-is-here-3 : tie.Need-element-copy-out-is-here-3
 element-copy-out-is-here-3 c = search needs
@@ -82,7 +64,7 @@ is-here-requires-3 : tie.Need-is-here-requires-3
 is-here-requires-3 c κs = search needs
 
 returns-3 : tie.Need-returns-3
-returns-3 c = hit _ _ _ (room (c .before .before .before .before .before .before .before)) 2 _ (missed-2 (c .before .before .before)) (sym (c .before .is-here3 .ensures) ∙ c .if3 .taken)
+returns-3 c = hit _ _ _ _ (room (c .before .before .before .before .before .before .before)) 2 _ (missed-2 (c .before .before .before)) (sym (c .before .is-here3 .ensures) ∙ c .if3 .taken)
 
 element-copy-out-is-here-4 : tie.Need-element-copy-out-is-here-4
 element-copy-out-is-here-4 c = search needs
@@ -91,46 +73,13 @@ is-here-requires-4 : tie.Need-is-here-requires-4
 is-here-requires-4 c κs = search needs
 
 returns-4 : tie.Need-returns-4
-returns-4 c = hit _ _ _ (room (c .before .before .before .before .before .before .before .before .before .before)) 3 _ (missed-3 (c .before .before .before)) (sym (c .before .is-here4 .ensures) ∙ c .if4 .taken)
+returns-4 c = hit _ _ _ _ (room (c .before .before .before .before .before .before .before .before .before .before)) 3 _ (missed-3 (c .before .before .before)) (sym (c .before .is-here4 .ensures) ∙ c .if4 .taken)
 
-element-copy-out-is-here-5 : tie.Need-element-copy-out-is-here-5
-element-copy-out-is-here-5 c = search needs
-
-is-here-requires-5 : tie.Need-is-here-requires-5
-is-here-requires-5 c κs = search needs
+find-behind-requires : tie.Need-find-behind-requires
+find-behind-requires c κs = search needs
 
 returns-5 : tie.Need-returns-5
-returns-5 c = hit _ _ _ (room (c .before .before .before .before .before .before .before .before .before .before .before .before .before)) 4 _ (missed-4 (c .before .before .before)) (sym (c .before .is-here5 .ensures) ∙ c .if5 .taken)
-
-element-copy-out-is-here-6 : tie.Need-element-copy-out-is-here-6
-element-copy-out-is-here-6 c = search needs
-
-is-here-requires-6 : tie.Need-is-here-requires-6
-is-here-requires-6 c κs = search needs
-
-returns-6 : tie.Need-returns-6
-returns-6 c = hit _ _ _ (room (c .before .before .before .before .before .before .before .before .before .before .before .before .before .before .before .before)) 5 _ (missed-5 (c .before .before .before)) (sym (c .before .is-here6 .ensures) ∙ c .if6 .taken)
-
-element-copy-out-is-here-7 : tie.Need-element-copy-out-is-here-7
-element-copy-out-is-here-7 c = search needs
-
-is-here-requires-7 : tie.Need-is-here-requires-7
-is-here-requires-7 c κs = search needs
-
-returns-7 : tie.Need-returns-7
-returns-7 c = hit _ _ _ (room (c .before .before .before .before .before .before .before .before .before .before .before .before .before .before .before .before .before .before .before)) 6 _ (missed-6 (c .before .before .before)) (sym (c .before .is-here7 .ensures) ∙ c .if7 .taken)
-
-element-copy-out-is-here-8 : tie.Need-element-copy-out-is-here-8
-element-copy-out-is-here-8 c = search needs
-
-is-here-requires-8 : tie.Need-is-here-requires-8
-is-here-requires-8 c κs = search needs
-
-returns-8 : tie.Need-returns-8
-returns-8 c = hit _ _ _ (room (c .before .before .before .before .before .before .before .before .before .before .before .before .before .before .before .before .before .before .before .before .before .before)) 7 _ (missed-7 (c .before .before .before)) (sym (c .before .is-here8 .ensures) ∙ c .if8 .taken)
-
-returns-9 : tie.Need-returns-9
-returns-9 c = missed-all _ _ _ (room (c .before .before .before .before .before .before .before .before .before .before .before .before .before .before .before .before .before .before .before .before .before .before)) 8 (c .before .before .before .before .before .before .before .before .before .before .before .before .before .before .before .before .before .before .before .before .before .before .before .before .pre) (missed-8 c)
+returns-5 c = c .find-behind .ensures ∙ sym (missed-4 (c .before) .rest)
 
 pub find-spec : {M : Type 1} → statement M
 find-spec =
@@ -148,16 +97,5 @@ find-spec =
     element-copy-out-is-here-4
     is-here-requires-4
     returns-4
-    element-copy-out-is-here-5
-    is-here-requires-5
-    returns-5
-    element-copy-out-is-here-6
-    is-here-requires-6
-    returns-6
-    element-copy-out-is-here-7
-    is-here-requires-7
-    returns-7
-    element-copy-out-is-here-8
-    is-here-requires-8
-    returns-8
-    returns-9)
+    find-behind-requires
+    returns-5)
