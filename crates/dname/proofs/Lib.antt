@@ -2,3 +2,4 @@
 pub mod NameLaws
 pub mod CompletionLaws
 pub mod GrammarLaws
+pub mod ReadingLaws

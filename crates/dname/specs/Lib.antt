@@ -2,3 +2,5 @@
 pub mod Name
 -- The same rule as a grammar, for the reader: a theorem says that the two agree.
 pub mod Grammar
+-- What the inner functions say.
+pub mod Reading

@@ -1,6 +1,9 @@
 // Domain names as they stand in a field of octets: labels, each under its length, to an end.
 ghost use mathlib.Core.Path.{_≡_};
+ghost use Prim.Native.Nat.{_≤_};
+ghost use lib.ListN.{length};
 ghost use Rattle.dname.specs.Name.{labelsOf, shapeOf, sameName};
+ghost use Rattle.dname.specs.Reading.{Passed, number};
 
 // What a field holds.
 pub enum Shape {
@@ -14,27 +17,82 @@ pub enum Shape {
     Malformed,
 }
 
-// The rest of a field where a label or the end is due. The octets left fall at each call.
-fn labels(rest: &[u8]) -> Shape
-    ensures { λ r. ⌜ r ≡ labelsOf 0 (now (rest .entry)) ⌝ }
+// The most octets of a label.
+const LONGEST_LABEL: usize = 63;
+
+// What the labels of a field come to, as a number: it goes back through a register.
+const FULL: u8 = 1;
+
+const PARTIAL: u8 = 2;
+
+const MALFORMED: u8 = 3;
+
+// The place behind the label at a place; the same place where no whole label stands.
+fn past_label(rest: &[u8], at: usize) -> usize
+    requires { ⌜ at ≤ length (now rest) ⌝ }
+    ensures { λ r. ⌜ Passed (now (rest .entry)) at r ⌝ }
 {
-    if rest.len() == 0 {
-        return Shape::Partial;
+    if rest.len() <= at {
+        return at;
     }
-    let n = rest[0] as usize;
+    let n = rest[at] as usize;
     if n == 0 {
-        if rest.len() == 1 {
-            return Shape::Full;
+        return at;
+    }
+    if LONGEST_LABEL < n {
+        return at;
+    }
+    if rest.len() - at <= n {
+        return at;
+    }
+    at + n + 1
+}
+
+// The place behind the next four labels, or behind fewer where no fourth one stands.
+fn past_labels(rest: &[u8], at: usize) -> usize
+    requires { ⌜ at ≤ length (now rest) ⌝ }
+    ensures { λ r. ⌜ Passed (now (rest .entry)) at r ⌝ }
+{
+    let a = past_label(rest, at);
+    if a == at {
+        return at;
+    }
+    let b = past_label(rest, a);
+    if b == a {
+        return a;
+    }
+    let c = past_label(rest, b);
+    if c == b {
+        return b;
+    }
+    past_label(rest, c)
+}
+
+// The rest of a field where a label or the end is due. The octets left fall at each call. A call
+// passes over up to nine labels, so that the longest names take few calls.
+fn labels(rest: &[u8]) -> u8
+    ensures { λ r. ⌜ r ≡ number (labelsOf 0 (now (rest .entry))) ⌝ }
+{
+    let some = past_labels(rest, 0);
+    let at = past_labels(rest, some);
+    if rest.len() <= at {
+        return PARTIAL;
+    }
+    let left = rest.len() - at;
+    let n = rest[at] as usize;
+    if n == 0 {
+        if left == 1 {
+            return FULL;
         }
-        return Shape::Malformed;
+        return MALFORMED;
     }
-    if 63 < n {
-        return Shape::Malformed;
+    if LONGEST_LABEL < n {
+        return MALFORMED;
     }
-    if rest.len() <= n {
-        return Shape::Malformed;
+    if left <= n {
+        return MALFORMED;
     }
-    labels(&rest[n + 1..])
+    labels(&rest[at + n + 1..])
 }
 
 // What a whole field holds. Its length is tested first: at most 255 octets are read, so at most 128
@@ -53,17 +111,16 @@ pub fn shape_of(field: &[u8]) -> Shape
         return Shape::Malformed;
     }
     let read = labels(field);
-    match read {
-        Shape::Full => Shape::Full,
-        Shape::Partial => {
-            if 254 < n {
-                return Shape::Malformed;
-            }
-            Shape::Partial
-        }
-        Shape::Empty => Shape::Malformed,
-        Shape::Malformed => Shape::Malformed,
+    if read == FULL {
+        return Shape::Full;
     }
+    if read != PARTIAL {
+        return Shape::Malformed;
+    }
+    if 254 < n {
+        return Shape::Malformed;
+    }
+    Shape::Partial
 }
 
 // Whether two names are equal.

@@ -1,3 +1,4 @@
 -- Laws that belong to no one function.
 pub mod AnswerLaws
 pub mod RoomLaws
+pub mod FlagLaws

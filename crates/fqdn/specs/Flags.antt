@@ -1,6 +1,5 @@
 -- The flag decision. Document 01, "Name option".
-use Prim.Native.Nat.{ℕ, zero, suc, _+_, _*_, _%_, _≤_}
-use mathlib.Core.Path.{_≡_}
+use Prim.Native.Nat.{ℕ, zero, suc, _+_, _*_, _%_}
 use mathlib.Core.List.{List, [], _∷_}
 use lib.ListN.{getD}
 
@@ -27,10 +26,3 @@ flagTable =
 -- Document 01, "Name option": the place in the table.
 unfoldable pub flagAnswer : ℕ → ℕ → ℕ → ℕ
 flagAnswer flags s n = getD flagTable (flags % 8 + 8 * honoured s + 16 * honoured n) 0
-
--- ---- for the contract of an inner function; no public promise cites it
-
--- 0 or 1 for a number.
-pub record Honoured (number r : ℕ) : Type 0 where
-  pub is : r ≡ honoured number
-  pub small : r ≤ 1

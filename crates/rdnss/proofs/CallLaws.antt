@@ -109,9 +109,13 @@ module _ (l : ServerList) where
   pub unexpired-fits : (clock : Moment) → l .count ≤ places → length (unexpired clock (held l)) ≤ places
   unexpired-fits clock h = omega (arith, keep-length (λ e. not (isPast (expires e) clock)) (held l), take-short (l .count) (l .entries))
 
-pub area-whole : (area : List ℕ) → isArea area ≡ true → isWhole 0 area ≡ true
+pub area-long : (area : List ℕ) → 1500 < length area → isArea area ≡ false
 unfolding isArea
-area-whole area h = and-right (leb (length area) 1500) (isWhole 0 area) h
+area-long area h = rw (lt-leb (length area) 1500 h)
+
+pub area-short : (area : List ℕ) → length area ≤ 1500 → isArea area ≡ isWhole 0 area
+unfolding isArea
+area-short area h = rw (le-leb (length area) 1500 h)
 
 -- the stages of the call
 module _ (list : ServerList) (clock : Moment) (area : List ℕ) where

@@ -10,3 +10,4 @@ pub mod CallLaws
 pub mod SoundLaws
 pub mod NamingLaws
 pub mod Theorems
+pub mod ChainLaws

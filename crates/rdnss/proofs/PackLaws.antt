@@ -71,11 +71,7 @@ module _ {l : ServerList} (p : InPlaces l) where
 pub held-at : (l : ServerList) (k : ℕ) (d : Server) → k < l .count → l .count ≤ length (l .entries) → getD (l .entries) k d ≡ getD (held l) k blank
 held-at l k d h n = getD-any (l .entries) k d blank (omega arith) ∙ sym (getD-take (l .count) (l .entries) k blank h)
 
--- what a comparison of two such entries said
-pub alike : (l : ServerList) (j k : ℕ) (c d : Server) (t : Bool) → servers .noLater (getD (l .entries) j c) (getD (l .entries) k d) ≡ t
-    → j < l .count → k < l .count → l .count ≤ length (l .entries) → servers .noLater (getD (held l) j blank) (getD (held l) k blank) ≡ t
-alike l j k c d t h p q n = rw (← held-at l j c p n, ← held-at l k d q n) h
-
+-- what a test of such entries said
 pub about-held : (l : ServerList) (j k : ℕ) (c d : Server) (t : Bool) → isAbout servers (getD (l .entries) j c .address) (getD (l .entries) k d) ≡ t
     → j < l .count → k < l .count → l .count ≤ length (l .entries) → isAbout servers (getD (held l) j blank .address) (getD (held l) k blank) ≡ t
 about-held l j k c d t h p q n = rw (← held-at l j c p n, ← held-at l k d q n) h

@@ -1,7 +1,7 @@
 -- The laws of a list by its places, whatever an entry is about and however it expires. Assumes nothing.
 use mathlib.Core.Path.{_≡_, refl, ap, sym, _∙_}
 use mathlib.Core.Bool.{Bool, true, false, cond, _||_}
-use mathlib.Core.List.{List, [], _∷_, _++_, append-assoc}
+use mathlib.Core.List.{List, [], _∷_, _++_, append-assoc, append-nil}
 use Prim.Native.Nat.{ℕ, zero, suc, _+_, _-_, _≤_, _<_}
 use native.Mathlib.Numerals.{add-one}
 use native.Mathlib.Omega.{arith}
@@ -56,6 +56,22 @@ module _ {E : Type 0} where
       let u : drop (suc i) (set m i carried) ≡ drop (suc i) m = drop-set-lt (suc i) m i carried (omega arith) in
       rw (add-one i, t, u, drop-cons m i d h) (append-snoc (take i m) carried (getD m i d ∷ drop (suc i) m))
 
+  -- an entry put in, and one no nearer the front taken out
+  inserted-out : (k n : ℕ) (x : E) (l : List E) → k ≤ n → n < length l → removeAt (suc n) (insertAt k x l) ≡ insertAt k x (removeAt n l)
+  inserted-out zero n x l h b = refl
+  inserted-out (suc k) zero x l h b = absurd (omega arith)
+  inserted-out (suc k) (suc n) x [] h b = absurd (omega arith)
+  inserted-out (suc k) (suc n) x (e ∷ l) h b = ap (λ (r : List E). e ∷ r) (inserted-out k n x l (omega arith) (omega arith))
+
+  set-out : (n : ℕ) (x : E) (l : List E) → n < length l → removeAt (suc n) (insertAt n x l) ≡ set l n x
+  set-out n x [] h = absurd (omega arith)
+  set-out zero x (e ∷ l) h = refl
+  set-out (suc n) x (e ∷ l) h = ap (λ (r : List E). e ∷ r) (set-out n x l (omega arith))
+
+  -- the entries between the two places moved back
+  pub back-out : (l m : List E) (k n : ℕ) (carried x : E) → length m ≡ length l → k ≤ n → n < length l → insertAt n carried m ≡ insertAt k x l → set m n carried ≡ insertAt k x (removeAt n l)
+  back-out l m k n carried x w h b e = sym (set-out n carried m (omega arith)) ∙ ap (removeAt (suc n)) e ∙ inserted-out k n x l h b
+
 -- Lists in eight places, the places behind them filled with z.
 module _ {E : Type 0} (z : E) where
   abbrev pub fill : List E → List E
@@ -63,6 +79,11 @@ module _ {E : Type 0} (z : E) where
 
   pub fill-length : (l : List E) → length l ≤ 8 → length (fill l) ≡ 8
   fill-length l h = omega (arith, length-append l (replicate (8 - length l) z), lib.ListN.length-replicate (8 - length l) z)
+
+  pub fill-full : (l : List E) → length l ≡ 8 → fill l ≡ l
+  fill-full l h =
+      let e : 8 - length l ≡ 0 = omega arith in
+      rw e (append-nil l)
 
   pub fill-push : (d : List E) (e : E) → length d < 8 → set (fill d) (length d) e ≡ fill (d ++ (e ∷ []))
   fill-push d e h =

@@ -81,11 +81,15 @@ pub extern "C" fn jespurla_server_list(
     if !form::is_timely(list, clock) {
         return refused(15, list);
     }
-    if !area::is_area(area) {
+    if 1500 < area.len() {
         return refused(16, list);
     }
     let unexpired = list::without_expired(list, clock);
-    let applied = area::apply_all(unexpired, area, clock);
+    let walked = area::apply_all(unexpired, area, clock);
+    if !walked.whole {
+        return refused(16, list);
+    }
+    let applied = walked.list;
     ServerListAnswer {
         refusal: 0,
         list: applied,

@@ -10,7 +10,7 @@ ghost use mathlib.Core.Bool.{false};
 ghost use mathlib.Core.List.{foldl};
 ghost use Prim.Native.Nat.{_+_, _-_, _*_, _/_, _≤_, _<_, min};
 ghost use lib.ListN.{length, take, drop};
-ghost use Rattle.rdnss.specs.Entries.{marking, roomed, inserted, named, namedAll, removed};
+ghost use Rattle.rdnss.specs.Entries.{marking, roomed, inserted, namedAll, removed};
 ghost use Rattle.rdnss.specs.Area.{acts, addressesFrom};
 ghost use Rattle.rdnss.specs.ServerList.{servers, held, packed, optionApplied};
 ghost use Rattle.rdnss.specs.Places.{InPlaces, Ready, Holds, marks, OptionFits};
@@ -21,72 +21,35 @@ pub(crate) struct Placed {
     pub at: usize,
 }
 
-// Room for one more entry.
-fn make_room(p: Placed) -> Placed
-    requires { ⌜ Ready p ⌝ }
-    ensures { λ r. ⌜ Holds (p .list .clock) (roomed (marking servers) (marks p)) r ⌝ }
-{
-    let l = p.list;
-    let at = p.at;
-    if l.count < 8 {
-        return p;
-    }
-    let k = list::evict_place(l);
-    let m = list::remove_at(l, k);
-    if k < at {
-        return Placed {
-            list: m,
-            at: at - 1,
-        };
-    }
-    Placed { list: m, at: at }
-}
-
-// A new entry, behind those which this option inserted.
+// A new entry, behind those which this option inserted. A full list gives one up for it.
 fn insert(p: Placed, a: Address6, x: Moment) -> Placed
     requires { ⌜ Ready p ⌝ }
     ensures { λ r. ⌜ Holds (p .list .clock) (inserted (marking servers .entry a x) (roomed (marking servers) (marks p))) r ⌝ }
 {
-    let q = make_room(p);
-    let at = q.at;
-    let m = list::insert_at(
-        q.list,
-        at,
-        Server {
-            address: a,
-            expiry: x,
-        },
-    );
+    let l = p.list;
+    let at = p.at;
+    let e = Server {
+        address: a,
+        expiry: x,
+    };
+    if l.count < 8 {
+        let m = list::insert_at(l, at, e);
+        return Placed {
+            list: m,
+            at: at + 1,
+        };
+    }
+    let k = list::evict_place(l);
+    if k < at {
+        let m = list::remove_at(l, k);
+        let n = list::insert_at(m, at - 1, e);
+        return Placed { list: n, at: at };
+    }
+    let m = list::replace(l, at, k, e);
     Placed {
         list: m,
         at: at + 1,
     }
-}
-
-// One address of an option that does not withdraw.
-fn name(p: Placed, a: Address6, x: Moment) -> Placed
-    requires { ⌜ Ready p ⌝ }
-    ensures { λ r. ⌜ Holds (p .list .clock) (named servers false x (marks p) a) r ⌝ }
-{
-    let l = p.list;
-    let k = list::find(l, a);
-    if k < l.count {
-        let m = list::renew_at(l, k, x);
-        return Placed { list: m, at: p.at };
-    }
-    insert(p, a, x)
-}
-
-// One address of an option that withdraws.
-fn withdraw(l: ServerList, a: Address6) -> ServerList
-    requires { ⌜ InPlaces l ⌝ }
-    ensures { λ r. ⌜ r ≡ packed (l .clock) (removed servers a (held l)) ⌝ }
-{
-    let k = list::find(l, a);
-    if k < l.count {
-        return list::remove_at(l, k);
-    }
-    l
 }
 
 // The address at a place.
@@ -112,25 +75,41 @@ fn withdraw_all(l: ServerList, v: &[u8], n: usize) -> ServerList
     let mut j: usize = 0;
     while j < n {
         let a = address_at(v, 8 + 16 * j);
-        m = withdraw(m, a);
         j += 1;
+        let k = list::find(m, a);
+        if k < m.count {
+            m = list::remove_at(m, k);
+        }
     }
     m
 }
 
-// The first n addresses of an option, renewed or inserted.
+// The first n addresses of an option, renewed where they stand or inserted.
 fn name_all(l: ServerList, v: &[u8], n: usize, x: Moment) -> ServerList
     requires { ⌜ InPlaces l × (8 + 16 * n ≤ length (now v)) ⌝ }
     ensures { λ r. ⌜ r ≡ packed (l .clock) (namedAll servers false x (addressesFrom n (drop 8 (now (v .entry)))) (held l)) ⌝ }
 {
-    let mut p = Placed { list: l, at: 0 };
+    let mut m = l;
+    let mut own: usize = 0;
     let mut j: usize = 0;
     while j < n {
         let a = address_at(v, 8 + 16 * j);
-        p = name(p, a, x);
         j += 1;
+        let k = list::find(m, a);
+        if k < m.count {
+            let e = m.entries[k];
+            let b = e.address;
+            m.entries[k] = Server {
+                address: b,
+                expiry: x,
+            };
+        } else {
+            let p = insert(Placed { list: m, at: own }, a, x);
+            m = p.list;
+            own = p.at;
+        }
     }
-    p.list
+    m
 }
 
 // Whether an option acts: Type 25 with odd Length of at least 3.

@@ -1,12 +1,26 @@
 use mathlib.Core.Path.{_≡_, _∙_, sym, ap}
+use mathlib.Core.Bool.{true}
 use borrow.Author.Tests.{not-true, not-false}
-use Rattle.rdnss.specs.ServerList.{held, packed, unexpired, applied, answer}
+use Rattle.rdnss.specs.ServerList.{held, packed, unexpired, applied, answer, isSound, isTimely}
 use Rattle.rdnss.specs.declared.ServerList.{ServerList}
 use Rattle.rdnss.proofs.PackLaws.{of-clock, of-held, in-places}
-use Rattle.rdnss.proofs.CallLaws.{refused-31, refused-15, refused-16, accepted, sound-count, unexpired-fits, area-whole}
+use Rattle.rdnss.proofs.CallLaws.{refused-31, refused-15, refused-16, accepted, sound-count, unexpired-fits, area-long, area-short}
 use borrow.Author.Needs.{needs}
 use Rattle.rdnss.proofs.jespurla_server_list.Statement.{statement}
 use Rattle.rdnss.proofs.jespurla_server_list.Tie as tie
+use Rattle.rdnss.proofs.jespurla_server_list.Reads as reads
+use Rattle.rdnss.proofs.jespurla_server_list.Lts as lts
+use Rattle.rdnss.proofs.area.apply_all.Reads as apply-all-reads
+use Rattle.rdnss.proofs.form.is_sound.Reads as is-sound-reads
+use Rattle.rdnss.proofs.form.is_timely.Reads as is-timely-reads
+use Rattle.rdnss.proofs.list.without_expired.Reads as without-expired-reads
+use Rattle.rdnss.proofs.refused.Reads as refused-reads
+
+sound : (c : tie.Else1) → isSound (c .before .before .before .args .list) ≡ true
+sound c = sym (c .before .is-sound .ensures) ∙ not-false _ (c .if1 .left)
+
+timely : (c : tie.Else2) → isTimely (c .before .before .before .before .before .args .list) (c .before .before .before .before .before .args .clock) ≡ true
+timely c = sym (c .before .is-timely .ensures) ∙ not-false _ (c .if2 .left)
 
 is-sound-requires : tie.Need-is-sound-requires
 is-sound-requires c κs = search needs
@@ -28,45 +42,43 @@ refused-requires-2 c κs = search needs
 returns-2 : tie.Need-returns-2
 returns-2 c =
     let s = c .before .before .before .before .before .before .args in
-    let x = sym (c .before .before .before .before .is-sound .ensures) ∙ not-false _ (c .before .before .before .if1 .left) in
-    c .refused2 .ensures ∙ refused-15 (s .list) (s .clock) (s .area .now) x (sym (c .before .before .is-timely .ensures) ∙ not-true _ (c .before .if2 .taken))
-
-is-area-requires : tie.Need-is-area-requires
-is-area-requires c κs = search needs
+    c .refused2 .ensures ∙ refused-15 (s .list) (s .clock) (s .area .now) (sound (c .before .before .before)) (sym (c .before .before .is-timely .ensures) ∙ not-true _ (c .before .if2 .taken))
 
 refused-requires-3 : tie.Need-refused-requires-3
 refused-requires-3 c κs = search needs
 
 returns-3 : tie.Need-returns-3
 returns-3 c =
-    let s = c .before .before .before .before .before .before .before .before .args in
-    let x = sym (c .before .before .before .before .before .before .is-sound .ensures) ∙ not-false _ (c .before .before .before .before .before .if1 .left) in
-    let y = sym (c .before .before .before .before .is-timely .ensures) ∙ not-false _ (c .before .before .before .if2 .left) in
-    c .refused3 .ensures ∙ refused-16 (s .list) (s .clock) (s .area .now) x y (sym (c .before .before .is-area .ensures) ∙ not-true _ (c .before .if3 .taken))
+    let s = c .before .before .before .before .before .before .before .args in
+    c .refused3 .ensures ∙ refused-16 (s .list) (s .clock) (s .area .now) (sound (c .before .before .before .before)) (timely (c .before .before)) (area-long (s .area .now) (c .before .if3 .taken))
 
 without-expired-requires : tie.Need-without-expired-requires
-without-expired-requires c κs =
-    let s = c .before .before .before .before .before .before .before .args in
-    sound-count (s .list) (sym (c .before .before .before .before .before .is-sound .ensures) ∙ not-false _ (c .before .before .before .before .if1 .left))
+without-expired-requires c κs = sound-count (c .before .before .before .before .before .before .args .list) (sound (c .before .before .before))
 
 apply-all-requires : tie.Need-apply-all-requires
 apply-all-requires c κs =
-    let s = c .before .before .before .before .before .before .before .before .args in
-    let n = sound-count (s .list) (sym (c .before .before .before .before .before .before .is-sound .ensures) ∙ not-false _ (c .before .before .before .before .before .if1 .left)) in (
-      in-places (s .clock) (unexpired (s .clock) (held (s .list))) (c .without-expired .ensures) (unexpired-fits (s .list) (s .clock) n),
-      area-whole (s .area .now) (sym (c .before .before .is-area .ensures) ∙ not-false _ (c .before .if3 .left)),
-    )
+    let s = c .before .before .before .before .before .before .before .args in
+    in-places (s .clock) (unexpired (s .clock) (held (s .list))) (c .without-expired .ensures) (unexpired-fits (s .list) (s .clock) (sound-count (s .list) (sound (c .before .before .before .before))))
+
+refused-requires-4 : tie.Need-refused-requires-4
+refused-requires-4 c κs = search needs
 
 returns-4 : tie.Need-returns-4
 returns-4 c =
-    let s = c .before .before .before .before .before .before .before .before .before .args in
-    let x = sym (c .before .before .before .before .before .before .before .is-sound .ensures) ∙ not-false _ (c .before .before .before .before .before .before .if1 .left) in
-    let y = sym (c .before .before .before .before .before .is-timely .ensures) ∙ not-false _ (c .before .before .before .before .if2 .left) in
-    let z = sym (c .before .before .before .is-area .ensures) ∙ not-false _ (c .before .before .if3 .left) in
+    let s = c .before .before .before .before .before .before .before .before .before .before .before .args in
+    let w = sym (c .before .before .before .apply-all .ensures .whole) ∙ not-true _ (c .before .if4 .taken) in
+    c .refused4 .ensures ∙ refused-16 (s .list) (s .clock) (s .area .now) (sound (c .before .before .before .before .before .before .before .before)) (timely (c .before .before .before .before .before .before)) (area-short (s .area .now) (c .before .before .before .before .before .if3 .left) ∙ w)
+
+returns-5 : tie.Need-returns-5
+returns-5 c =
+    let s = c .before .before .before .before .before .before .before .before .before .before .before .args in
+    let v = s .area .now in
+    let a = c .before .before .before .apply-all .ensures in
+    let t = not-false _ (c .before .if4 .left) in
     let u = unexpired (s .clock) (held (s .list)) in
-    let h = c .before .without-expired .ensures in
-    let r : c .apply-all .result ≡ packed (s .clock) (applied (s .clock) (s .area .now) (held (s .list))) = c .apply-all .ensures ∙ rw (of-clock (s .clock) u h, of-held (s .clock) u h) in
-    ap (λ (l : ServerList). answer 0 l) r ∙ accepted (s .list) (s .clock) (s .area .now) x y z
+    let h = c .before .before .before .before .without-expired .ensures in
+    let r : c .before .before .before .apply-all .result .list ≡ packed (s .clock) (applied (s .clock) v (held (s .list))) = a .applied t ∙ rw (of-clock (s .clock) u h, of-held (s .clock) u h) in
+    ap (λ (l : ServerList). answer 0 l) r ∙ accepted (s .list) (s .clock) v (sound (c .before .before .before .before .before .before .before .before)) (timely (c .before .before .before .before .before .before)) (area-short v (c .before .before .before .before .before .if3 .left) ∙ sym (a .whole) ∙ t)
 
 pub jespurla-server-list-spec : {M : Type 1} → statement M
 jespurla-server-list-spec =
@@ -78,9 +90,10 @@ jespurla-server-list-spec =
     is-timely-requires
     refused-requires-2
     returns-2
-    is-area-requires
     refused-requires-3
     returns-3
     without-expired-requires
     apply-all-requires
-    returns-4)
+    refused-requires-4
+    returns-4
+    returns-5)

@@ -1,50 +1,35 @@
-use Rattle.fqdn.specs.Flags.{flagAnswer}
+use Rattle.fqdn.proofs.FlagLaws.{none-asked, s-overridden, s-honoured, n-dropped, n-honoured, others-refused}
 use borrow.Author.Needs.{needs}
 use Rattle.fqdn.proofs.flags.jespurla_flag_decision.Statement.{statement}
 use Rattle.fqdn.proofs.flags.jespurla_flag_decision.Tie as tie
-
-cast-place : tie.Need-cast-place
-cast-place c = search needs
-
-one-if-requires : tie.Need-one-if-requires
-one-if-requires c κs = search needs
-
-mul-place : tie.Need-mul-place
-mul-place c = search needs
-
-add-place : tie.Need-add-place
-add-place c = search needs
-
-one-if-requires-2 : tie.Need-one-if-requires-2
-one-if-requires-2 c κs = search needs
-
-mul-place-2 : tie.Need-mul-place-2
-mul-place-2 c = search needs
-
-add-place-2 : tie.Need-add-place-2
-add-place-2 c = search needs
-
-mul-result : tie.Need-mul-result
-mul-result c = search needs
-
-array-read-result : tie.Need-array-read-result
-array-read-result c = search needs
+use Rattle.fqdn.proofs.flags.jespurla_flag_decision.Reads as reads
+use Rattle.fqdn.proofs.flags.jespurla_flag_decision.Lts as lts
 
 returns : tie.Need-returns
-unfolding flagAnswer
-returns c = rw (c .before .one-if .ensures .is, c .one-if2 .ensures .is)
+returns c = none-asked _ _ _ (c .if1 .taken)
+
+returns-2 : tie.Need-returns-2
+returns-2 c = s-overridden _ _ _ (c .before .if2 .taken) (c .if3 .taken)
+
+cast-result : tie.Need-cast-result
+cast-result c = search needs
+
+returns-3 : tie.Need-returns-3
+returns-3 c = s-honoured _ _ _ (c .before .if2 .taken) (c .if3 .left)
+
+returns-4 : tie.Need-returns-4
+returns-4 c = n-dropped _ _ _ (c .before .if4 .taken) (c .if5 .taken)
+
+cast-result-2 : tie.Need-cast-result-2
+cast-result-2 c = search needs
+
+returns-5 : tie.Need-returns-5
+returns-5 c = n-honoured _ _ _ (c .before .if4 .taken) (c .if5 .left)
+
+returns-6 : tie.Need-returns-6
+returns-6 c = others-refused _ _ _ (c .before .before .if1 .left) (c .before .if2 .left) (c .if4 .left)
 
 pub jespurla-flag-decision-spec : {M : Type 1} → statement M
 jespurla-flag-decision-spec =
     tie.close
-    (tie.spec
-    cast-place
-    one-if-requires
-    mul-place
-    add-place
-    one-if-requires-2
-    mul-place-2
-    add-place-2
-    mul-result
-    array-read-result
-    returns)
+    (tie.spec returns returns-2 cast-result returns-3 returns-4 cast-result-2 returns-5 returns-6)

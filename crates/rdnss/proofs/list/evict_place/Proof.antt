@@ -1,95 +1,131 @@
-use Prim.Native.Nat.{_<_, _+_, _-_}
-use mathlib.Core.Path.{_≡_, sym, _∙_}
-use native.Mathlib.Nat.{zero-add}
+use Prim.Native.Nat.{ℕ, _<_, _≤_}
+use mathlib.Core.Path.{_≡_}
 use native.Mathlib.Omega.{arith}
+use lib.ListN.{length, getD}
+use Rattle.rdnss.specs.ServerList.{held, blank}
+use Rattle.rdnss.specs.Places.{InPlaces}
+use Rattle.rdnss.specs.declared.Server.{Server}
+use Rattle.rdnss.specs.declared.ServerList.{ServerList}
+use Rattle.rdnss.proofs.PackLaws.{held-at, held-length, full-length}
+use Rattle.rdnss.proofs.ChainLaws.{Foremost, foremost-last, foremost-more}
 use borrow.Author.Needs.{needs}
-use borrow.Author.Tests.{not-true, not-false}
-use lib.ListN.{length, drop, length-map}
-use lib.Seq.{length-take-le}
-use Rattle.rdnss.specs.ServerList.{servers, held, blank}
-use Rattle.rdnss.specs.Places.{evictPlace}
-use Rattle.rdnss.proofs.PlaceLaws.{evict-last, evict-keep, evict-take}
-use Rattle.rdnss.proofs.PackLaws.{alike}
-use Rattle.rdnss.proofs.ServerLaws.{ordered}
 use Rattle.rdnss.proofs.list.evict_place.Statement.{statement}
 use Rattle.rdnss.proofs.list.evict_place.Tie as tie
+use Rattle.rdnss.proofs.list.evict_place.Reads as reads
+use Rattle.rdnss.proofs.list.evict_place.Lts as lts
+use Rattle.rdnss.proofs.list.earlier.Reads as earlier-reads
 
-abbrev Inv-loop : tie.InvT-loop
-Inv-loop l i₀ best₀ i best = (length (l .entries) ≡ 8) × (length (held l) ≡ l .count) × (i < l .count) × (best < l .count) × (best ≡ i + evictPlace servers (drop i (held l)))
+-- what is read at a place of a full list
+at-place : (l : ServerList) (i : ℕ) (d : Server) → InPlaces l → l .count ≡ 8 → i < 8 → getD (l .entries) i d ≡ getD (held l) i blank
+at-place l i d p n h = held-at l i d (omega arith) (omega (arith, full-length p))
 
-abbrev μ-loop : tie.MeasureT-loop
-μ-loop l i₀ best₀ i best = i
+foremost-1 : (c : tie.After-earlier) → Foremost (held (c .before .before .before .before .args .t1)) 6 (c .earlier .result)
+foremost-1 c =
+    let s = c .before .before .before .before in
+    rw (c .earlier .ensures)
+    (foremost-more (held (s .args .t1)) 7 _ (omega arith) (omega (arith, held-length (s .pre .0), s .pre .1)) (at-place (s .args .t1) 6 _ (s .pre .0) (s .pre .1) (omega arith)) (foremost-last (held (s .args .t1)) 7 _ (omega (arith, held-length (s .pre .0), s .pre .1)) (at-place (s .args .t1) 7 _ (s .pre .0) (s .pre .1) (omega arith))))
 
-sub-i : tie.Need-sub-i Inv-loop μ-loop
-sub-i c = omega arith
+foremost-2 : (c : tie.After-earlier2) → Foremost (held (c .before .before .before .before .before .before .args .t1)) 5 (c .earlier2 .result)
+foremost-2 c =
+    let s = c .before .before .before .before .before .before in
+    rw (c .earlier2 .ensures)
+    (foremost-more (held (s .args .t1)) 6 _ (omega arith) (omega (arith, held-length (s .pre .0), s .pre .1)) (at-place (s .args .t1) 5 _ (s .pre .0) (s .pre .1) (omega arith)) (foremost-1 (c .before .before)))
 
-loop-holds : tie.Need-loop-holds Inv-loop μ-loop
-loop-holds c =
-    let a = c .args in
-    let g = simp length-map at (c .good .0 .1 .1 .0 .1 .0 .1) in
-    let e = length-take-le (a .t1 .count) (a .t1 .entries) (omega arith) in
-    (g, e, omega arith, omega arith, omega (arith, evict-last servers ordered (held (a .t1)) blank (a .t1 .count - 1) (omega arith)))
+foremost-3 : (c : tie.After-earlier3) → Foremost (held (c .before .before .before .before .before .before .before .before .args .t1)) 4 (c .earlier3 .result)
+foremost-3 c =
+    let s = c .before .before .before .before .before .before .before .before in
+    rw (c .earlier3 .ensures)
+    (foremost-more (held (s .args .t1)) 5 _ (omega arith) (omega (arith, held-length (s .pre .0), s .pre .1)) (at-place (s .args .t1) 4 _ (s .pre .0) (s .pre .1) (omega arith)) (foremost-2 (c .before .before)))
 
-sub-i-2 : tie.Need-sub-i-2 Inv-loop μ-loop
-sub-i-2 c = omega arith
+foremost-4 : (c : tie.After-earlier4) → Foremost (held (c .before .before .before .before .before .before .before .before .before .before .args .t1)) 3 (c .earlier4 .result)
+foremost-4 c =
+    let s = c .before .before .before .before .before .before .before .before .before .before in
+    rw (c .earlier4 .ensures)
+    (foremost-more (held (s .args .t1)) 4 _ (omega arith) (omega (arith, held-length (s .pre .0), s .pre .1)) (at-place (s .args .t1) 3 _ (s .pre .0) (s .pre .1) (omega arith)) (foremost-3 (c .before .before)))
 
-mul-e : tie.Need-mul-e Inv-loop μ-loop
-mul-e c = search needs
+foremost-5 : (c : tie.After-earlier5) → Foremost (held (c .before .before .before .before .before .before .before .before .before .before .before .before .args .t1)) 2 (c .earlier5 .result)
+foremost-5 c =
+    let s = c .before .before .before .before .before .before .before .before .before .before .before .before in
+    rw (c .earlier5 .ensures)
+    (foremost-more (held (s .args .t1)) 3 _ (omega arith) (omega (arith, held-length (s .pre .0), s .pre .1)) (at-place (s .args .t1) 2 _ (s .pre .0) (s .pre .1) (omega arith)) (foremost-4 (c .before .before)))
 
-element-copy-out-e : tie.Need-element-copy-out-e Inv-loop μ-loop
-element-copy-out-e c = search needs
+foremost-6 : (c : tie.After-earlier6) → Foremost (held (c .before .before .before .before .before .before .before .before .before .before .before .before .before .before .args .t1)) 1 (c .earlier6 .result)
+foremost-6 c =
+    let s = c .before .before .before .before .before .before .before .before .before .before .before .before .before .before in
+    rw (c .earlier6 .ensures)
+    (foremost-more (held (s .args .t1)) 2 _ (omega arith) (omega (arith, held-length (s .pre .0), s .pre .1)) (at-place (s .args .t1) 1 _ (s .pre .0) (s .pre .1) (omega arith)) (foremost-5 (c .before .before)))
 
-mul-b : tie.Need-mul-b Inv-loop μ-loop
-mul-b c = search needs
+foremost-7 : (c : tie.After-earlier7) → Foremost (held (c .before .before .before .before .before .before .before .before .before .before .before .before .before .before .before .before .args .t1)) 0 (c .earlier7 .result)
+foremost-7 c =
+    let s = c .before .before .before .before .before .before .before .before .before .before .before .before .before .before .before .before in
+    rw (c .earlier7 .ensures)
+    (foremost-more (held (s .args .t1)) 1 _ (omega arith) (omega (arith, held-length (s .pre .0), s .pre .1)) (at-place (s .args .t1) 0 _ (s .pre .0) (s .pre .1) (omega arith)) (foremost-6 (c .before .before)))
 
-element-copy-out-b : tie.Need-element-copy-out-b Inv-loop μ-loop
-element-copy-out-b c = search needs
+element-copy-out-last : tie.Need-element-copy-out-last
+element-copy-out-last c = search needs
 
-is-no-later-requires : tie.Need-is-no-later-requires Inv-loop μ-loop
-is-no-later-requires c κs = search needs
+element-copy-out-earlier : tie.Need-element-copy-out-earlier
+element-copy-out-earlier c = search needs
 
-loop-less : tie.Need-loop-less Inv-loop μ-loop
-loop-less c = omega arith
+earlier-requires : tie.Need-earlier-requires
+earlier-requires c κs = search needs
 
-loop-again : tie.Need-loop-again Inv-loop μ-loop
-loop-again c =
-    let a = c .before .before .before .before .before .before .args in
-    let l = c .before .before .before .before .before .loop in
-    let h = l .inv in
-    (h .0, h .1, omega arith, omega arith, evict-take servers ordered (held (a .t1)) blank (l .i) (l .best) (omega arith) (omega arith) (h .4) (alike (a .t1) (l .best) (l .i - 1) _ _ _ (sym (c .before .is-no-later .ensures) ∙ not-true _ (c .if1 .taken)) (omega arith) (omega arith) (omega arith)))
+element-copy-out-earlier-2 : tie.Need-element-copy-out-earlier-2
+element-copy-out-earlier-2 c = search needs
 
-loop-less-2 : tie.Need-loop-less-2 Inv-loop μ-loop
-loop-less-2 c = omega arith
+earlier-requires-2 : tie.Need-earlier-requires-2
+earlier-requires-2 c κs = search needs
 
-loop-again-2 : tie.Need-loop-again-2 Inv-loop μ-loop
-loop-again-2 c =
-    let a = c .before .before .before .before .before .before .args in
-    let l = c .before .before .before .before .before .loop in
-    let h = l .inv in
-    (h .0, h .1, omega arith, omega arith, evict-keep servers ordered (held (a .t1)) blank (l .i) (l .best) (omega arith) (omega arith) (h .4) (alike (a .t1) (l .best) (l .i - 1) _ _ _ (sym (c .before .is-no-later .ensures) ∙ not-false _ (c .if1 .left)) (omega arith) (omega arith) (omega arith)))
+element-copy-out-earlier-3 : tie.Need-element-copy-out-earlier-3
+element-copy-out-earlier-3 c = search needs
 
-returns : tie.Need-returns Inv-loop μ-loop
-returns c =
-    let l = c .before .loop in
-    let e : l .i ≡ 0 = omega arith in
-    l .inv .4 ∙ rw e (simp zero-add)
+earlier-requires-3 : tie.Need-earlier-requires-3
+earlier-requires-3 c κs = search needs
+
+element-copy-out-earlier-4 : tie.Need-element-copy-out-earlier-4
+element-copy-out-earlier-4 c = search needs
+
+earlier-requires-4 : tie.Need-earlier-requires-4
+earlier-requires-4 c κs = search needs
+
+element-copy-out-earlier-5 : tie.Need-element-copy-out-earlier-5
+element-copy-out-earlier-5 c = search needs
+
+earlier-requires-5 : tie.Need-earlier-requires-5
+earlier-requires-5 c κs = search needs
+
+element-copy-out-earlier-6 : tie.Need-element-copy-out-earlier-6
+element-copy-out-earlier-6 c = search needs
+
+earlier-requires-6 : tie.Need-earlier-requires-6
+earlier-requires-6 c κs = search needs
+
+element-copy-out-earlier-7 : tie.Need-element-copy-out-earlier-7
+element-copy-out-earlier-7 c = search needs
+
+earlier-requires-7 : tie.Need-earlier-requires-7
+earlier-requires-7 c κs = search needs
+
+returns : tie.Need-returns
+returns c = omega (arith, foremost-7 c .place)
 
 pub evict-place-spec : {M : Type 1} → statement M
 evict-place-spec =
     tie.close
     (tie.spec
-    Inv-loop
-    μ-loop
-    sub-i
-    loop-holds
-    sub-i-2
-    mul-e
-    element-copy-out-e
-    mul-b
-    element-copy-out-b
-    is-no-later-requires
-    loop-less
-    loop-again
-    loop-less-2
-    loop-again-2
+    element-copy-out-last
+    element-copy-out-earlier
+    earlier-requires
+    element-copy-out-earlier-2
+    earlier-requires-2
+    element-copy-out-earlier-3
+    earlier-requires-3
+    element-copy-out-earlier-4
+    earlier-requires-4
+    element-copy-out-earlier-5
+    earlier-requires-5
+    element-copy-out-earlier-6
+    earlier-requires-6
+    element-copy-out-earlier-7
+    earlier-requires-7
     returns)

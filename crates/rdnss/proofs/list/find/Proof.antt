@@ -1,74 +1,101 @@
-use Prim.Native.Nat.{_≤_, _+_, _-_}
-use mathlib.Core.Path.{_≡_, sym, _∙_}
+use Prim.Native.Nat.{_≤_}
+use mathlib.Core.Path.{_∙_, sym}
 use native.Mathlib.Omega.{arith}
-use borrow.Author.Needs.{needs}
-use lib.ListN.{length, drop, length-map}
+use lib.ListN.{length, length-map}
 use Rattle.rdnss.specs.Entries.{isAbout}
 use Rattle.rdnss.specs.ServerList.{servers, held}
 use Rattle.rdnss.specs.Places.{place}
-use Rattle.rdnss.proofs.PlaceLaws.{place-here, place-next, place-end}
+use Rattle.rdnss.proofs.ChainLaws.{Missed, missed-none, miss, hit}
+use borrow.Author.Needs.{needs}
 use Rattle.rdnss.proofs.list.find.Statement.{statement}
 use Rattle.rdnss.proofs.list.find.Tie as tie
+use Rattle.rdnss.proofs.list.find.Reads as reads
+use Rattle.rdnss.proofs.list.find.Lts as lts
+use Rattle.rdnss.proofs.list.find_behind.Reads as find-behind-reads
+use Rattle.rdnss.proofs.list.is_here.Reads as is-here-reads
 
-abbrev Inv-loop : tie.InvT-loop
-Inv-loop a l n i₀ i = (length (l .entries) ≡ 8) × (i ≤ n) × (place (isAbout servers a) (held l) ≡ i + place (isAbout servers a) (drop i (held l)))
+room : (c : tie.After-is-here) → c .before .before .args .t1 .count ≤ length (c .before .before .args .t1 .entries)
+room c =
+    let s = c .before .before in
+    omega (arith, s .pre, simp length-map at (s .good .0 .1 .1 .0 .1 .0 .1))
 
-abbrev μ-loop : tie.MeasureT-loop
-μ-loop a l n i₀ i = n - i
+missed-1 : (c : tie.Else1) →
+    let a = c .before .before .before .args in
+    Missed (isAbout servers (a .a)) (a .t1 .entries) (a .t1 .count) (place (isAbout servers (a .a)) (held (a .t1))) 1
+missed-1 c = miss _ _ _ _ (room (c .before)) 0 _ (missed-none _ _ _) (sym (c .before .is-here .ensures) ∙ c .if1 .left)
 
-loop-holds : tie.Need-loop-holds Inv-loop μ-loop
-loop-holds c = (simp length-map at (c .good .0 .1 .1 .0 .1 .0 .1), omega arith, omega arith)
+missed-2 : (c : tie.Else2) →
+    let a = c .before .before .before .before .before .before .args in
+    Missed (isAbout servers (a .a)) (a .t1 .entries) (a .t1 .count) (place (isAbout servers (a .a)) (held (a .t1))) 2
+missed-2 c = miss _ _ _ _ (room (c .before .before .before .before)) 1 _ (missed-1 (c .before .before .before)) (sym (c .before .is-here2 .ensures) ∙ c .if2 .left)
 
-mul-e : tie.Need-mul-e Inv-loop μ-loop
-mul-e c = search needs
+missed-3 : (c : tie.Else3) →
+    let a = c .before .before .before .before .before .before .before .before .before .args in
+    Missed (isAbout servers (a .a)) (a .t1 .entries) (a .t1 .count) (place (isAbout servers (a .a)) (held (a .t1))) 3
+missed-3 c = miss _ _ _ _ (room (c .before .before .before .before .before .before .before)) 2 _ (missed-2 (c .before .before .before)) (sym (c .before .is-here3 .ensures) ∙ c .if3 .left)
 
-element-copy-out-e : tie.Need-element-copy-out-e Inv-loop μ-loop
-element-copy-out-e c = search needs
+missed-4 : (c : tie.Else4) →
+    let a = c .before .before .before .before .before .before .before .before .before .before .before .before .args in
+    Missed (isAbout servers (a .a)) (a .t1 .entries) (a .t1 .count) (place (isAbout servers (a .a)) (held (a .t1))) 4
+missed-4 c = miss _ _ _ _ (room (c .before .before .before .before .before .before .before .before .before .before)) 3 _ (missed-3 (c .before .before .before)) (sym (c .before .is-here4 .ensures) ∙ c .if4 .left)
 
-is-about-requires : tie.Need-is-about-requires Inv-loop μ-loop
-is-about-requires c κs = search needs
+element-copy-out-is-here : tie.Need-element-copy-out-is-here
+element-copy-out-is-here c = search needs
 
-returns : tie.Need-returns Inv-loop μ-loop
-returns c =
-    let a = c .before .before .before .before .before .args in
-    let h = c .before .before .before .before .loop .inv in
-    let i = c .before .before .before .before .loop .i in
-    omega (arith, place-here (isAbout servers (a .a)) (a .t1 .entries) (a .t1 .count) i _ (omega arith) (omega arith) (sym (c .before .is-about .ensures) ∙ c .if1 .taken))
+is-here-requires : tie.Need-is-here-requires
+is-here-requires c κs = search needs
 
-add-i : tie.Need-add-i Inv-loop μ-loop
-add-i c = search needs
+returns : tie.Need-returns
+returns c = hit _ _ _ _ (room (c .before)) 0 _ (missed-none _ _ _) (sym (c .before .is-here .ensures) ∙ c .if1 .taken)
 
-loop-less : tie.Need-loop-less Inv-loop μ-loop
-loop-less c = search needs
+element-copy-out-is-here-2 : tie.Need-element-copy-out-is-here-2
+element-copy-out-is-here-2 c = search needs
 
-loop-again : tie.Need-loop-again Inv-loop μ-loop
-loop-again c =
-    let a = c .before .before .before .before .before .args in
-    let h = c .before .before .before .before .loop .inv in
-    let i = c .before .before .before .before .loop .i in (
-      h .0,
-      omega arith,
-      omega (arith, place-next (isAbout servers (a .a)) (a .t1 .entries) (a .t1 .count) i _ (omega arith) (omega arith) (sym (c .before .is-about .ensures) ∙ c .if1 .left)),
-    )
+is-here-requires-2 : tie.Need-is-here-requires-2
+is-here-requires-2 c κs = search needs
 
-returns-2 : tie.Need-returns-2 Inv-loop μ-loop
-returns-2 c =
-    let a = c .before .before .args in
-    let h = c .before .loop .inv in
-    omega (arith, place-end (isAbout servers (a .a)) (a .t1 .entries) (a .t1 .count) (c .before .loop .i) (omega arith) (omega arith))
+returns-2 : tie.Need-returns-2
+returns-2 c = hit _ _ _ _ (room (c .before .before .before .before)) 1 _ (missed-1 (c .before .before .before)) (sym (c .before .is-here2 .ensures) ∙ c .if2 .taken)
+
+element-copy-out-is-here-3 : tie.Need-element-copy-out-is-here-3
+element-copy-out-is-here-3 c = search needs
+
+is-here-requires-3 : tie.Need-is-here-requires-3
+is-here-requires-3 c κs = search needs
+
+returns-3 : tie.Need-returns-3
+returns-3 c = hit _ _ _ _ (room (c .before .before .before .before .before .before .before)) 2 _ (missed-2 (c .before .before .before)) (sym (c .before .is-here3 .ensures) ∙ c .if3 .taken)
+
+element-copy-out-is-here-4 : tie.Need-element-copy-out-is-here-4
+element-copy-out-is-here-4 c = search needs
+
+is-here-requires-4 : tie.Need-is-here-requires-4
+is-here-requires-4 c κs = search needs
+
+returns-4 : tie.Need-returns-4
+returns-4 c = hit _ _ _ _ (room (c .before .before .before .before .before .before .before .before .before .before)) 3 _ (missed-3 (c .before .before .before)) (sym (c .before .is-here4 .ensures) ∙ c .if4 .taken)
+
+find-behind-requires : tie.Need-find-behind-requires
+find-behind-requires c κs = search needs
+
+returns-5 : tie.Need-returns-5
+returns-5 c = c .find-behind .ensures ∙ sym (missed-4 (c .before) .rest)
 
 pub find-spec : {M : Type 1} → statement M
 find-spec =
     tie.close
     (tie.spec
-    Inv-loop
-    μ-loop
-    loop-holds
-    mul-e
-    element-copy-out-e
-    is-about-requires
+    element-copy-out-is-here
+    is-here-requires
     returns
-    add-i
-    loop-less
-    loop-again
-    returns-2)
+    element-copy-out-is-here-2
+    is-here-requires-2
+    returns-2
+    element-copy-out-is-here-3
+    is-here-requires-3
+    returns-3
+    element-copy-out-is-here-4
+    is-here-requires-4
+    returns-4
+    find-behind-requires
+    returns-5)

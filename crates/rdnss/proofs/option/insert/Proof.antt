@@ -1,24 +1,94 @@
-use Rattle.rdnss.proofs.OptionLaws.{room-made, put-in}
+use Prim.Native.Nat.{ℕ, _+_, _-_}
+use mathlib.Core.Path.{_≡_, refl, subst}
+use native.Mathlib.Omega.{arith}
+use Rattle.rdnss.specs.Entries.{marking, roomed, inserted}
+use Rattle.rdnss.specs.ServerList.{servers, held, packed}
+use Rattle.rdnss.specs.Places.{Holds, marks, removeAt}
+use Rattle.rdnss.specs.declared.option.Placed.{Placed}
+use Rattle.rdnss.proofs.PackLaws.{packed-held, of-clock}
+use Rattle.rdnss.proofs.OptionLaws.{room-left, evict-within, own-evicted, other-evicted, room-made, put-in}
 use borrow.Author.Needs.{needs}
 use Rattle.rdnss.proofs.option.insert.Statement.{statement}
 use Rattle.rdnss.proofs.option.insert.Tie as tie
+use Rattle.rdnss.proofs.option.insert.Reads as reads
+use Rattle.rdnss.proofs.option.insert.Lts as lts
+use Rattle.rdnss.proofs.list.evict_place.Reads as evict-place-reads
+use Rattle.rdnss.proofs.list.insert_at.Reads as insert-at-reads
+use Rattle.rdnss.proofs.list.remove_at.Reads as remove-at-reads
+use Rattle.rdnss.proofs.list.replace.Reads as replace-reads
 
-make-room-requires : tie.Need-make-room-requires
-make-room-requires c κs = search needs
+-- an entry of the option's own is evicted
+room : (c : tie.After-remove-at) →
+    let p = c .before .before .before .before .before .before .args .p in
+    Holds (p .list .clock) (roomed (marking servers) (marks p)) (record { list = c .remove-at .result; at = p .at - 1 })
+room c =
+    let s = c .before .before .before .before .before .before in
+    own-evicted (s .args .p) (s .pre) (c .before .before .evict-place .result) (omega arith) (c .before .before .evict-place .ensures) (c .remove-at .ensures) (c .before .if2 .taken)
 
 insert-at-requires : tie.Need-insert-at-requires
-insert-at-requires c κs =
-    let s = c .before in
-    let h = c .make-room .ensures in
-    (h .ready .list, room-made (s .args .p .list .clock) (s .args .p) (c .make-room .result) (s .pre) h, h .ready .own)
+insert-at-requires c κs = search needs
 
-add-t8 : tie.Need-add-t8
-add-t8 c = search needs
+add-t13 : tie.Need-add-t13
+add-t13 c = search needs
 
 returns : tie.Need-returns
 returns c =
-    let s = c .before .before in
-    put-in (s .args .p .list .clock) (s .args .p) (c .before .make-room .result) (s .pre) (c .before .make-room .ensures) (s .args .a) (s .args .x) (c .insert-at .ensures)
+    let s = c .before .before .before .before in
+    let p = s .args .p in
+    put-in (p .list .clock) p p (s .pre) (room-left p (s .pre) (c .before .if1 .taken)) (s .args .a) (s .args .x) (c .insert-at .ensures)
+
+evict-place-requires : tie.Need-evict-place-requires
+evict-place-requires c κs = search needs
+
+remove-at-requires : tie.Need-remove-at-requires
+remove-at-requires c κs = search needs
+
+sub-insert-at : tie.Need-sub-insert-at
+sub-insert-at c = search needs
+
+insert-at-requires-2 : tie.Need-insert-at-requires-2
+insert-at-requires-2 c κs =
+    let h = room c in
+    (h .ready .list, room-made _ _ _ (c .before .before .before .before .before .before .pre) h, h .ready .own)
+
+returns-2 : tie.Need-returns-2
+returns-2 c =
+    let s = c .before .before .before .before .before .before .before in
+    let p = s .args .p in
+    let e : p .at - 1 + 1 ≡ p .at = omega arith in
+    subst (λ (j : ℕ). Holds (p .list .clock) (inserted (marking servers .entry (s .args .a) (s .args .x)) (roomed (marking servers) (marks p))) (record { list = c .insert-at2 .result; at = j })) e
+    (put-in (p .list .clock) p _ (s .pre) (room (c .before)) (s .args .a) (s .args .x) (c .insert-at2 .ensures))
+
+replace-requires : tie.Need-replace-requires
+replace-requires c κs =
+    let s = c .before .before .before .before .before in
+    (s .pre .list, omega (arith, s .pre .list .few), c .if2 .left, omega (arith, s .pre .list .few, c .before .evict-place .ensures, evict-within (s .args .p) (s .pre) (omega arith)))
+
+add-t15 : tie.Need-add-t15
+add-t15 c = search needs
+
+returns-3 : tie.Need-returns-3
+returns-3 c =
+    let s = c .before .before .before .before .before .before in
+    let p = s .args .p in
+    let k = c .before .before .evict-place .result in
+    let d = removeAt k (held (p .list)) in
+    let h = other-evicted p (s .pre) k {m = packed (p .list .clock) d} (omega arith) (c .before .before .evict-place .ensures) refl (c .before .if2 .left) in
+    put-in (p .list .clock) p (record { list = packed (p .list .clock) d; at = p .at }) (s .pre) h (s .args .a) (s .args .x)
+    (rw (of-clock {m = packed (p .list .clock) d} (p .list .clock) d refl, packed-held (p .list .clock) d) (c .replace .ensures))
 
 pub insert-spec : {M : Type 1} → statement M
-insert-spec = tie.close (tie.spec make-room-requires insert-at-requires add-t8 returns)
+insert-spec =
+    tie.close
+    (tie.spec
+    insert-at-requires
+    add-t13
+    returns
+    evict-place-requires
+    remove-at-requires
+    sub-insert-at
+    insert-at-requires-2
+    returns-2
+    replace-requires
+    add-t15
+    returns-3)

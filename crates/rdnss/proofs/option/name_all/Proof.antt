@@ -8,20 +8,27 @@ use lib.ListN.{drop}
 use Rattle.rdnss.specs.Entries.{Marked, named, namedAll}
 use Rattle.rdnss.specs.Area.{addressesFrom}
 use Rattle.rdnss.specs.ServerList.{servers, held, packed}
-use Rattle.rdnss.specs.Places.{Ready, marks, marked}
+use Rattle.rdnss.specs.Places.{Ready, Holds, marked, replaceAt}
 use Rattle.rdnss.specs.declared.Server.{Server}
+use Rattle.rdnss.specs.declared.option.Placed.{Placed}
 use Rattle.rdnss.proofs.MarkLaws.{marked-items, marked-none}
-use Rattle.rdnss.proofs.OptionLaws.{addresses-start, addresses-more, addresses-end}
+use Rattle.rdnss.proofs.PackLaws.{set-packed, held-at, full-length}
+use Rattle.rdnss.proofs.OptionLaws.{found, missing, addresses-start, addresses-more, addresses-end}
 use Rattle.rdnss.proofs.option.name_all.Statement.{statement}
 use Rattle.rdnss.proofs.option.name_all.Tie as tie
+use Rattle.rdnss.proofs.option.name_all.Reads as reads
+use Rattle.rdnss.proofs.option.name_all.Lts as lts
+use Rattle.rdnss.proofs.list.find.Reads as find-reads
+use Rattle.rdnss.proofs.option.address_at.Reads as address-at-reads
+use Rattle.rdnss.proofs.option.insert.Reads as insert-reads
 
 abbrev Inv-loop : tie.InvT-loop
-Inv-loop v n x p₀ j₀ p j =
-    (j ≤ n) × Ready p × (p .list .clock ≡ p₀ .list .clock)
-    × (foldl (named servers false x) (marks p₀) (addressesFrom n (drop 8 v)) ≡ foldl (named servers false x) (marks p) (addressesFrom (n - j) (drop (8 + 16 * j) v)))
+Inv-loop v n x m₀ own₀ j₀ m own j =
+    (j ≤ n) × Ready (record { list = m; at = own }) × (m .clock ≡ m₀ .clock)
+    × (foldl (named servers false x) (marked 0 (held m₀)) (addressesFrom n (drop 8 v)) ≡ foldl (named servers false x) (marked own (held m)) (addressesFrom (n - j) (drop (8 + 16 * j) v)))
 
 abbrev μ-loop : tie.MeasureT-loop
-μ-loop v n x p₀ j₀ p j = n - j
+μ-loop v n x m₀ own₀ j₀ m own j = n - j
 
 loop-holds : tie.Need-loop-holds Inv-loop μ-loop
 loop-holds c = (omega arith, record { list = c .before .pre .0; own = omega arith }, refl, ap (foldl (named servers false (c .before .args .x)) (marked 0 (held (c .before .args .l)))) (addresses-start (c .before .args .n) (drop 8 (c .before .args .v .now))))
@@ -35,45 +42,83 @@ add-address-at c = search needs
 address-at-requires : tie.Need-address-at-requires Inv-loop μ-loop
 address-at-requires c κs = search needs
 
-name-requires : tie.Need-name-requires Inv-loop μ-loop
-name-requires c κs = search needs
-
 add-j : tie.Need-add-j Inv-loop μ-loop
 add-j c = search needs
 
-loop-less : tie.Need-loop-less Inv-loop μ-loop
-loop-less c = search needs
+find-requires : tie.Need-find-requires Inv-loop μ-loop
+find-requires c κs = c .before .before .loop .inv .1 .list .few
 
-loop-again : tie.Need-loop-again Inv-loop μ-loop
-loop-again c =
+mul-e : tie.Need-mul-e Inv-loop μ-loop
+mul-e c = omega (arith, c .before .before .before .before .loop .inv .1 .list .few)
+
+element-copy-out-e : tie.Need-element-copy-out-e Inv-loop μ-loop
+element-copy-out-e c = omega (arith, full-length (c .before .before .before .before .loop .inv .1 .list))
+
+mul-t17 : tie.Need-mul-t17 Inv-loop μ-loop
+mul-t17 c = omega (arith, c .before .before .before .before .before .before .loop .inv .1 .list .few)
+
+element-set-from-m : tie.Need-element-set-from-m Inv-loop μ-loop
+element-set-from-m c = omega (arith, full-length (c .before .before .before .before .before .before .loop .inv .1 .list), c .before .before .before .before .before .before .loop .inv .1 .list .few)
+
+loop-less : tie.Need-loop-less Inv-loop μ-loop
+loop-less c = omega arith
+
+-- one address more, renewed or inserted
+again : (c : tie.After-find Inv-loop μ-loop) →
+    let s = c .before .before .before .before .before in
+    let l = c .before .before .before .loop in
+    (q : Placed) → Holds (l .m .clock) (named servers false (s .args .x) (marked (l .own) (held (l .m))) (c .before .address-at .result)) q
+    → Inv-loop (s .args .v .now) (s .args .n) (s .args .x) (s .args .l) 0 0 (q .list) (q .at) (l .j + 1)
+again c q e =
     let s = c .before .before .before .before .before in
     let l = c .before .before .before .loop in
     let h = l .inv in
     let v = s .args .v .now in
-    let x = s .args .x in
-    let e = c .name .ensures in (
+    let x = s .args .x in (
       omega arith,
       e .ready,
       e .clocked ∙ h .2,
-      h .3 ∙ ap (foldl (named servers false x) (marks (l .p))) (addresses-more v (s .args .n) (l .j) (omega arith))
+      h .3 ∙ ap (foldl (named servers false x) (marked (l .own) (held (l .m)))) (addresses-more v (s .args .n) (l .j) (omega arith))
           ∙ ap (λ (t : List (Marked Server)). foldl (named servers false x) t (addressesFrom (s .args .n - (l .j + 1)) (drop (8 + 16 * (l .j + 1)) v)))
-          (ap (named servers false x (marks (l .p))) (sym (c .before .address-at .ensures)) ∙ sym (e .holds)),
+          (ap (named servers false x (marked (l .own) (held (l .m)))) (sym (c .before .address-at .ensures)) ∙ sym (e .holds)),
     )
+
+loop-again : tie.Need-loop-again Inv-loop μ-loop
+loop-again c =
+    let d = c .before .before .before in
+    let l = d .before .before .before .loop in
+    let i = l .inv .1 .list in
+    let x = d .before .before .before .before .before .args .x in
+    let k = d .find .result in
+    let t = c .before .before .if1 .taken in
+    again d _ (found (record { list = l .m; at = l .own }) (l .inv .1) (d .before .address-at .result) x k (d .find .ensures) t
+    (set-packed i k _ t ∙ ap (λ (e : Server). packed (l .m .clock) (replaceAt k (servers .renew x e) (held (l .m)))) (held-at (l .m) k _ t (omega (arith, full-length i, i .few)))))
+
+insert-requires : tie.Need-insert-requires Inv-loop μ-loop
+insert-requires c κs = c .before .before .before .before .loop .inv .1
+
+loop-less-2 : tie.Need-loop-less-2 Inv-loop μ-loop
+loop-less-2 c = omega arith
+
+loop-again-2 : tie.Need-loop-again-2 Inv-loop μ-loop
+loop-again-2 c =
+    let d = c .before .before .before in
+    let l = d .before .before .before .loop in
+    again d _ (missing (record { list = l .m; at = l .own }) (l .inv .1) (d .before .address-at .result) (d .before .before .before .before .before .args .x) (d .find .result) (d .find .ensures) (c .before .before .if1 .left) (c .before .insert .ensures))
 
 returns : tie.Need-returns Inv-loop μ-loop
 unfolding namedAll
 returns c =
-    let s = c .before .before .before .before in
-    let l = c .before .before .loop in
+    let s = c .before .before .before in
+    let l = c .before .loop in
     let h = l .inv in
     let v = s .args .v .now in
-    let q = l .p .list in
     let k = held (s .args .l) in
     h .1 .list .packs
     ∙ rw (h .2)
     (ap (packed (s .args .l .clock))
-    (sym (marked-items (l .p .at) (held q))
-    ∙ ap (map (λ m. m .item)) (sym (h .3 ∙ ap (foldl (named servers false (s .args .x)) (marks (l .p))) (addresses-end (s .args .n) (l .j) (drop (8 + 16 * l .j) v) (omega arith))) ∙ ap (λ (t : List (Marked Server)). foldl (named servers false (s .args .x)) t (addressesFrom (s .args .n) (drop 8 v))) (marked-none k))))
+    (sym (marked-items (l .own) (held (l .m)))
+    ∙ ap (map (λ m. m .item)) (sym (h .3 ∙ ap (foldl (named servers false (s .args .x)) (marked (l .own) (held (l .m)))) (addresses-end (s .args .n) (l .j) (drop (8 + 16 * l .j) v) (omega arith))) ∙ ap (λ (t : List (Marked Server)). foldl (named servers false (s .args .x)) t (addressesFrom (s .args .n) (drop 8 v))) (marked-none k))))
 
 pub name-all-spec : {M : Type 1} → statement M
 name-all-spec =
@@ -85,8 +130,15 @@ name-all-spec =
     mul-address-at
     add-address-at
     address-at-requires
-    name-requires
     add-j
+    find-requires
+    mul-e
+    element-copy-out-e
+    mul-t17
+    element-set-from-m
     loop-less
     loop-again
+    insert-requires
+    loop-less-2
+    loop-again-2
     returns)

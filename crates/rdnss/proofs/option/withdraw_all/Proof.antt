@@ -6,13 +6,19 @@ use borrow.Author.Needs.{needs}
 use lib.ListN.{drop}
 use Rattle.rdnss.specs.Entries.{removed}
 use Rattle.rdnss.specs.Area.{addressesFrom}
-use Rattle.rdnss.specs.ServerList.{servers, held}
+use Rattle.rdnss.specs.ServerList.{servers, held, packed}
 use Rattle.rdnss.specs.Places.{InPlaces}
 use Rattle.rdnss.specs.declared.Address6.{Address6}
 use Rattle.rdnss.specs.declared.Server.{Server}
-use Rattle.rdnss.proofs.OptionLaws.{addresses-start, addresses-more, addresses-end, withdrawn-places, withdrawn-held, withdrawn-clock}
+use Rattle.rdnss.specs.declared.ServerList.{ServerList}
+use Rattle.rdnss.proofs.OptionLaws.{addresses-start, addresses-more, addresses-end, withdrawn, nothing-to-withdraw, withdrawn-places, withdrawn-held, withdrawn-clock}
 use Rattle.rdnss.proofs.option.withdraw_all.Statement.{statement}
 use Rattle.rdnss.proofs.option.withdraw_all.Tie as tie
+use Rattle.rdnss.proofs.option.withdraw_all.Reads as reads
+use Rattle.rdnss.proofs.option.withdraw_all.Lts as lts
+use Rattle.rdnss.proofs.list.find.Reads as find-reads
+use Rattle.rdnss.proofs.list.remove_at.Reads as remove-at-reads
+use Rattle.rdnss.proofs.option.address_at.Reads as address-at-reads
 
 abbrev Inv-loop : tie.InvT-loop
 Inv-loop v n m₀ j₀ m j =
@@ -34,29 +40,51 @@ add-address-at c = search needs
 address-at-requires : tie.Need-address-at-requires Inv-loop μ-loop
 address-at-requires c κs = search needs
 
-withdraw-requires : tie.Need-withdraw-requires Inv-loop μ-loop
-withdraw-requires c κs = search needs
-
 add-j : tie.Need-add-j Inv-loop μ-loop
 add-j c = search needs
 
-loop-less : tie.Need-loop-less Inv-loop μ-loop
-loop-less c = search needs
+find-requires : tie.Need-find-requires Inv-loop μ-loop
+find-requires c κs = search needs
 
-loop-again : tie.Need-loop-again Inv-loop μ-loop
-loop-again c =
-    let s = c .before .before .before .before .before in
-    let l = c .before .before .before .loop in
+remove-at-requires : tie.Need-remove-at-requires Inv-loop μ-loop
+remove-at-requires c κs = search needs
+
+loop-less : tie.Need-loop-less Inv-loop μ-loop
+loop-less c = omega arith
+
+-- one address more, whatever was done about it
+again : (c : tie.After-struct-known Inv-loop μ-loop) →
+    let s = c .before .before .before .before .before .before in
+    let l = c .before .before .before .before .loop in
+    (r : ServerList) → r ≡ packed (l .m .clock) (removed servers (c .before .before .address-at .result) (held (l .m)))
+    → Inv-loop (s .args .v .now) (s .args .n) (s .args .l) 0 r (l .j + 1)
+again c r e =
+    let s = c .before .before .before .before .before .before in
+    let l = c .before .before .before .before .loop in
     let h = l .inv in
-    let v = s .args .v .now in
-    let e = c .withdraw .ensures in (
+    let v = s .args .v .now in (
       omega arith,
       withdrawn-places (h .1) _ e,
       withdrawn-clock (h .1) _ e ∙ h .2,
       h .3 ∙ ap (foldl (λ t a. removed servers a t) (held (l .m))) (addresses-more v (s .args .n) (l .j) (omega arith))
           ∙ ap (λ (t : List Server). foldl (λ t a. removed servers a t) t (addressesFrom (s .args .n - (l .j + 1)) (drop (8 + 16 * (l .j + 1)) v)))
-          (ap (λ (a : Address6). removed servers a (held (l .m))) (sym (c .before .address-at .ensures)) ∙ sym (withdrawn-held (h .1) _ e)),
+          (ap (λ (a : Address6). removed servers a (held (l .m))) (sym (c .before .before .address-at .ensures)) ∙ sym (withdrawn-held (h .1) _ e)),
     )
+
+loop-again : tie.Need-loop-again Inv-loop μ-loop
+loop-again c =
+    let d = c .before .before in
+    let m = d .before .before .before .before .loop .m in
+    again d _ (withdrawn m (d .before .before .before .before .loop .inv .1) (d .before .before .address-at .result) (d .before .find .result) (d .before .find .ensures) (c .remove-at .ensures))
+
+loop-less-2 : tie.Need-loop-less-2 Inv-loop μ-loop
+loop-less-2 c = omega arith
+
+loop-again-2 : tie.Need-loop-again-2 Inv-loop μ-loop
+loop-again-2 c =
+    let d = c .before in
+    let m = d .before .before .before .before .loop .m in
+    again d _ (nothing-to-withdraw m (d .before .before .before .before .loop .inv .1) (d .before .before .address-at .result) (d .before .find .result) (d .before .find .ensures) (c .if1 .left))
 
 returns : tie.Need-returns Inv-loop μ-loop
 returns c =
@@ -76,8 +104,11 @@ withdraw-all-spec =
     mul-address-at
     add-address-at
     address-at-requires
-    withdraw-requires
     add-j
+    find-requires
+    remove-at-requires
     loop-less
     loop-again
+    loop-less-2
+    loop-again-2
     returns)

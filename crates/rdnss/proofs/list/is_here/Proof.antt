@@ -1,0 +1,23 @@
+use mathlib.Core.Path.{_∙_, sym}
+use native.Mathlib.Omega.{arith}
+use borrow.Author.Tests.{lt-ltb, le-ltb}
+use borrow.Author.Needs.{needs}
+use Rattle.rdnss.proofs.list.is_here.Statement.{statement}
+use Rattle.rdnss.proofs.list.is_here.Tie as tie
+use Rattle.rdnss.proofs.list.is_here.Reads as reads
+use Rattle.rdnss.proofs.list.is_here.Lts as lts
+use Rattle.rdnss.proofs.list.is_about.Reads as is-about-reads
+
+returns : tie.Need-returns
+returns c = simp (le-ltb _ _ (c .if1 .taken))
+
+is-about-requires : tie.Need-is-about-requires
+is-about-requires c κs = search needs
+
+returns-2 : tie.Need-returns-2
+returns-2 c =
+    let a = c .before .before .args in
+    simp (lt-ltb (a .at) (a .n) (omega arith), c .is-about .ensures)
+
+pub is-here-spec : {M : Type 1} → statement M
+is-here-spec = tie.close (tie.spec returns is-about-requires returns-2)
