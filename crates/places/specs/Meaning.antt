@@ -1,5 +1,4 @@
 -- What names and the places of a zone mean, and the form that they must have. Document 01, "Zone, requests and jobs".
-use mathlib.Core.Path.{_≡_}
 use mathlib.Core.Bool.{Bool, true, false, cond, not, _&&_}
 use mathlib.Core.List.{List, [], _∷_}
 use lib.Dec.{eqb, leb}
