@@ -7,13 +7,14 @@ use lib.Dec.{eqb}
 use borrow.Author.Tests.{eq-eqb}
 use Rattle.hosts.specs.Count.{Octets}
 use Rattle.hosts.proofs.CountLaws.{true≢false, and-left, and-right}
-use Rattle.zone.specs.declared.survey.Zone.{Zone}
-use Rattle.zone.specs.declared.name.Name.{Name}
-use Rattle.zone.specs.declared.entry.Dhcid.{Dhcid}
-use Rattle.zone.specs.declared.entry.Address.{Address}
+use Rattle.places.specs.declared.survey.Zone.{Zone}
+use Rattle.places.specs.declared.name.Name.{Name}
+use Rattle.places.specs.declared.entry.Dhcid.{Dhcid}
+use Rattle.places.specs.declared.entry.Address.{Address}
 use Rattle.zone.specs.Zone as abstract
 use Rattle.zone.specs.Zone.{Answer, success, YXDOMAIN, NXDOMAIN, NXRRSET, noRoom, keepOthers, requestA, requestB, removeAddress, removeName}
-use Rattle.zone.specs.Meaning.{nameOf, isFull, listed, policyOf, updateOf, zoneOf, formed}
+use Rattle.places.specs.Meaning.{nameOf, isFull, formed}
+use Rattle.zone.specs.Meaning.{listed, policyOf, updateOf, zoneOf}
 use Rattle.job.specs.declared.job.Job.{Job}
 use Rattle.job.specs.declared.fresh.NewJob.{NewJob}
 use Rattle.job.specs.declared.step.Stepped.{Stepped}

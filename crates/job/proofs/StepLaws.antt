@@ -7,10 +7,11 @@ use native.Mathlib.Omega.{arith}
 use lib.Dec.{eqb, leb}
 use borrow.Author.Tests.{eq-eqb, ne-eqb, lt-leb}
 use Rattle.hosts.proofs.CountLaws.{true≢false, and-left, and-right}
-use Rattle.zone.specs.declared.survey.Zone.{Zone}
+use Rattle.places.specs.declared.survey.Zone.{Zone}
 use Rattle.zone.specs.declared.request.Answered.{Answered}
 use Rattle.zone.specs.Zone.{Answer, Outcome, requestA, requestB, removeAddress, removeName}
-use Rattle.zone.specs.Meaning.{nameOf, isFull, listed, policyOf, updateOf, zoneOf, formed}
+use Rattle.places.specs.Meaning.{nameOf, isFull, formed}
+use Rattle.zone.specs.Meaning.{listed, policyOf, updateOf, zoneOf}
 use Rattle.zone.specs.Promise.{refusalOf, numberOf, Promised}
 use Rattle.job.specs.declared.job.Job.{Job}
 use Rattle.job.specs.declared.step.Stepped.{Stepped}

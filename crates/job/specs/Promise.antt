@@ -4,11 +4,12 @@ use mathlib.Core.Bool.{true, cond}
 use Prim.Native.Nat.{ℕ}
 use lib.Dec.{eqb}
 use Rattle.hosts.specs.Count.{Octets}
-use Rattle.zone.specs.declared.name.Name.{Name}
-use Rattle.zone.specs.declared.entry.Dhcid.{Dhcid}
-use Rattle.zone.specs.declared.entry.Address.{Address}
-use Rattle.zone.specs.declared.survey.Zone.{Zone}
-use Rattle.zone.specs.Meaning.{nameOf, isFull, listed, zoneOf, formed}
+use Rattle.places.specs.declared.name.Name.{Name}
+use Rattle.places.specs.declared.entry.Dhcid.{Dhcid}
+use Rattle.places.specs.declared.entry.Address.{Address}
+use Rattle.places.specs.declared.survey.Zone.{Zone}
+use Rattle.places.specs.Meaning.{nameOf, isFull, formed}
+use Rattle.zone.specs.Meaning.{listed, zoneOf}
 use Rattle.job.specs.declared.job.Job.{Job}
 use Rattle.job.specs.declared.fresh.NewJob.{NewJob}
 use Rattle.job.specs.declared.step.Stepped.{Stepped}

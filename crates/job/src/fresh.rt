@@ -1,12 +1,12 @@
 // New jobs.
 use crate::job::Job;
-use zone::entry::Address;
-use zone::entry::Dhcid;
-use zone::name;
-use zone::name::Name;
+use places::entry::Address;
+use places::entry::Dhcid;
+use places::name;
+use places::name::Name;
 use zone::request;
 ghost use mathlib.Core.Path.{_≡_};
-ghost use Rattle.zone.specs.Meaning.{nameOf};
+ghost use Rattle.places.specs.Meaning.{nameOf};
 ghost use Rattle.job.specs.Meaning.{blank};
 ghost use Rattle.job.specs.Promise.{newRefusal, newJob, AddPromise, RemovePromise};
 

@@ -2,9 +2,9 @@
 use crate::answer;
 use crate::job::Job;
 use crate::stage;
+use places::survey::Zone;
 use zone::request;
 use zone::request::Answered;
-use zone::survey::Zone;
 ghost use mathlib.Core.Path.{_≡_};
 ghost use mathlib.Core.Bool.{true, false};
 ghost use Rattle.job.specs.Meaning.{numbersListed};

@@ -1,8 +1,9 @@
 -- The calls that run keep the promises: demand 3, with no parameter left. Assumes nothing.
 use mathlib.Core.Path.{_≡_, sym, _∙_, ap, subst}
 use mathlib.Core.Bool.{true}
-use Rattle.zone.specs.declared.survey.Zone.{Zone}
-use Rattle.zone.specs.Meaning.{nameOf, isFull, zoneOf, formed}
+use Rattle.places.specs.declared.survey.Zone.{Zone}
+use Rattle.places.specs.Meaning.{nameOf, isFull, formed}
+use Rattle.zone.specs.Meaning.{zoneOf}
 use Rattle.zone.proofs.PlaceLaws.{form-of}
 use Rattle.job.specs.declared.job.Job.{Job}
 use Rattle.job.specs.declared.step.Stepped.{Stepped}

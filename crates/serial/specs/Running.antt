@@ -2,12 +2,13 @@
 use mathlib.Core.Path.{_≡_}
 use mathlib.Core.Bool.{true}
 use Prim.Native.Nat.{ℕ}
-use Rattle.zone.specs.declared.name.Name.{Name}
-use Rattle.zone.specs.declared.entry.Dhcid.{Dhcid}
-use Rattle.zone.specs.declared.entry.Address.{Address}
-use Rattle.zone.specs.declared.survey.Zone.{Zone}
+use Rattle.places.specs.declared.name.Name.{Name}
+use Rattle.places.specs.declared.entry.Dhcid.{Dhcid}
+use Rattle.places.specs.declared.entry.Address.{Address}
+use Rattle.places.specs.declared.survey.Zone.{Zone}
 use Rattle.zone.specs.Zone.{keepOthers}
-use Rattle.zone.specs.Meaning.{zoneOf, policyOf, updateOf, formed}
+use Rattle.places.specs.Meaning.{formed}
+use Rattle.zone.specs.Meaning.{zoneOf, policyOf, updateOf}
 use Rattle.job.specs.declared.job.Job.{Job}
 use Rattle.job.specs.declared.fresh.NewJob.{NewJob}
 use Rattle.job.specs.declared.step.Stepped.{Stepped}

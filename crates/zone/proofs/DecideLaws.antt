@@ -9,19 +9,21 @@ use borrow.Author.Tests.{eq-eqb, ne-eqb}
 use lib.ListN.{length, getD, set}
 use Rattle.dname.specs.Name.{key}
 use Rattle.hosts.specs.Count.{Octets, distinct}
-use Rattle.zone.specs.declared.name.Name.{Name}
-use Rattle.zone.specs.declared.entry.Entry.{Entry}
-use Rattle.zone.specs.declared.entry.Dhcid.{Dhcid}
-use Rattle.zone.specs.declared.entry.Address.{Address}
-use Rattle.zone.specs.declared.survey.Zone.{Zone}
-use Rattle.zone.specs.declared.survey.Survey.{Survey}
+use Rattle.places.specs.declared.name.Name.{Name}
+use Rattle.places.specs.declared.entry.Entry.{Entry}
+use Rattle.places.specs.declared.entry.Dhcid.{Dhcid}
+use Rattle.places.specs.declared.entry.Address.{Address}
+use Rattle.places.specs.declared.survey.Zone.{Zone}
+use Rattle.places.specs.declared.survey.Survey.{Survey}
 use Rattle.zone.specs.declared.decide.Change.{Change}
 use Rattle.zone.specs.Zone as rules
 use Rattle.zone.specs.Zone.{Host, Update, put, Answer, success, YXDOMAIN, NXDOMAIN, NXRRSET, noRoom, Outcome, says, heldBy, empty, address, newHost, left, fits, requestA, requestB, removeAddress, removeName}
-use Rattle.zone.specs.Meaning.{nameOf, isFull, used, keyOf, hostOf, keys, zoneOf, inOrder, allInOrder, formed, listed, policyOf, updateOf}
+use Rattle.places.specs.Meaning.{nameOf, isFull, used, keyOf, keys, inOrder, allInOrder, formed}
+use Rattle.zone.specs.Meaning.{hostOf, zoneOf, listed, policyOf, updateOf}
 use Rattle.zone.specs.Promise.{numberOf, refusalOf, Promised}
-use Rattle.zone.specs.Survey.{requestOf, Found, changed, Decided, Decides, Kept, Fresh, About, Joined, Parted, HasRoom}
-use Rattle.zone.proofs.SurveyLaws.{blank}
+use Rattle.places.specs.Survey.{Found}
+use Rattle.zone.specs.Inner.{requestOf, changed, Decided, Decides, Kept, Fresh, About, Joined, Parted, HasRoom}
+use Rattle.places.proofs.SurveyLaws.{blank}
 use Rattle.zone.proofs.HostLaws.{about}
 use Rattle.zone.proofs.ZoneLaws.{A-new, A-full, A-there, B-absent, B-other, B-full, B-done, remove-address-absent, remove-address-other, remove-address-own, remove-name-absent, remove-name-kept, remove-name-gone}
 use Rattle.zone.proofs.PlaceLaws.{found-order, found-host, found-changed, found-freed, not-found, free-written, free-room, no-room}

@@ -15,13 +15,14 @@ use Rattle.hosts.specs.declared.set4.Set4.{Set4}
 use Rattle.hosts.specs.declared.set6.Set6.{Set6}
 use Rattle.hosts.proofs.CountLaws.{and-left, and-right, distinct-nil, distinct-without}
 use Rattle.hosts.proofs.SetLaws.{sound-few, sound-once, sound-both, joined-once, joined-mark, without-mark}
-use Rattle.zone.specs.declared.entry.Entry.{Entry}
-use Rattle.zone.specs.declared.entry.Address.{Address}
-use Rattle.zone.specs.declared.entry.Dhcid.{Dhcid}
-use Rattle.zone.specs.declared.name.Name.{Name}
+use Rattle.places.specs.declared.entry.Entry.{Entry}
+use Rattle.places.specs.declared.entry.Address.{Address}
+use Rattle.places.specs.declared.entry.Dhcid.{Dhcid}
+use Rattle.places.specs.declared.name.Name.{Name}
 use Rattle.zone.specs.Zone.{Host, Update, isFamily, heldBy, with, ownFamily, address, fits, left, newHost}
-use Rattle.zone.specs.Meaning.{nameOf, isFull, listOf, hostOf, inOrder, familyOf, policyOf, addressOf, updateOf}
-use Rattle.zone.specs.Survey.{Kept, Fresh, Joined, About, emptied}
+use Rattle.places.specs.Meaning.{nameOf, isFull, inOrder}
+use Rattle.zone.specs.Meaning.{listOf, hostOf, familyOf, policyOf, addressOf, updateOf}
+use Rattle.zone.specs.Inner.{Kept, Fresh, Joined, About, emptied}
 
 -- ---- a place in order, by its parts
 

@@ -1,6 +1,4 @@
 -- Laws that belong to no one function. Crates above cite the definitions through these.
-pub mod PrintLaws
-pub mod SurveyLaws
 pub mod HostLaws
 pub mod ZoneLaws
 pub mod BareLaws

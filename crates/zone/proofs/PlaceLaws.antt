@@ -16,13 +16,14 @@ use Rattle.hosts.specs.Count.{Octets, member, distinct, Counts}
 use Rattle.hosts.specs.Addresses.{Family, four, six, list4, list6, sound}
 use Rattle.hosts.proofs.CountLaws.{true≢false, bool-case, and-left, and-right, same-yes, same-no, same-dec, counts-list, distinct-head, distinct-rest, distinct-cons}
 use Rattle.hosts.proofs.SetLaws.{sound-few, sound-once}
-use Rattle.zone.specs.declared.name.Name.{Name}
-use Rattle.zone.specs.declared.entry.Entry.{Entry}
-use Rattle.zone.specs.declared.survey.Zone.{Zone}
+use Rattle.places.specs.declared.name.Name.{Name}
+use Rattle.places.specs.declared.entry.Entry.{Entry}
+use Rattle.places.specs.declared.survey.Zone.{Zone}
 use Rattle.zone.specs.Zone as rules
 use Rattle.zone.specs.Zone.{Host, there, GoodHost, Form, put}
-use Rattle.zone.specs.Meaning.{nameOf, used, keyOf, listOf, hostOf, keys, look, zoneOf, inOrder, allInOrder, formed}
-use Rattle.zone.specs.Survey.{named, placeFrom}
+use Rattle.places.specs.Meaning.{nameOf, used, keyOf, keys, inOrder, allInOrder, formed}
+use Rattle.zone.specs.Meaning.{listOf, hostOf, look, zoneOf}
+use Rattle.places.specs.Survey.{named, placeFrom}
 use Rattle.zone.proofs.HostLaws.{Order, order-parts}
 use Rattle.zone.proofs.ZoneLaws.{some≢none, zone-eq, named-put, put-size}
 

@@ -10,16 +10,18 @@ use lib.Seq.{set-out}
 use borrow.Author.Tests.{eq-eqb, ne-eqb, le-leb, lt-leb, ltb-true, ltb-false}
 use Rattle.hosts.specs.Count.{Octets, distinct}
 use Rattle.hosts.proofs.CountLaws.{true≢false, bool-case}
-use Rattle.zone.specs.declared.entry.Entry.{Entry}
-use Rattle.zone.specs.declared.survey.Zone.{Zone}
-use Rattle.zone.specs.declared.survey.Survey.{Survey}
+use Rattle.places.specs.declared.entry.Entry.{Entry}
+use Rattle.places.specs.declared.survey.Zone.{Zone}
+use Rattle.places.specs.declared.survey.Survey.{Survey}
 use Rattle.zone.specs.declared.decide.Change.{Change}
 use Rattle.zone.specs.declared.request.Answered.{Answered}
 use Rattle.zone.specs.Zone as rules
 use Rattle.zone.specs.Zone.{Outcome}
-use Rattle.zone.specs.Meaning.{isFull, keys, zoneOf, allInOrder, formed, listed}
+use Rattle.places.specs.Meaning.{isFull, keys, allInOrder, formed}
+use Rattle.zone.specs.Meaning.{zoneOf, listed}
 use Rattle.zone.specs.Promise.{numberOf, refusalOf, Promised}
-use Rattle.zone.specs.Survey.{Found, written, settled, changed, Decided, Decides}
+use Rattle.places.specs.Survey.{Found}
+use Rattle.zone.specs.Inner.{written, settled, changed, Decided, Decides}
 
 -- ---- numbers that are listed
 

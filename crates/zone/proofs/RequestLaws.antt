@@ -12,10 +12,11 @@ use Rattle.dname.specs.Name.{key}
 use Rattle.hosts.specs.Count.{Octets, distinct}
 use Rattle.hosts.specs.Addresses.{nothing}
 use Rattle.hosts.proofs.CountLaws.{true≢false, bool-case, distinct-nil}
-use Rattle.zone.specs.declared.entry.Entry.{Entry}
-use Rattle.zone.specs.declared.survey.Zone as place
+use Rattle.places.specs.declared.entry.Entry.{Entry}
+use Rattle.places.specs.declared.survey.Zone as place
 use Rattle.zone.specs.Zone.{Host, Zone, GoodHost, Form, put, Update, Policy, Answer, success, YXDOMAIN, NXDOMAIN, NXRRSET, noRoom, Outcome, says, atName, heldBy, empty, address, newHost, left, fits, requestA, requestB, removeAddress, removeName}
-use Rattle.zone.specs.Meaning.{used, keys, look, zoneOf, inOrder, allInOrder, formed}
+use Rattle.places.specs.Meaning.{used, keys, inOrder, allInOrder, formed}
+use Rattle.zone.specs.Meaning.{look, zoneOf}
 use Rattle.zone.proofs.ZoneLaws.{option-case, put-at, put-off, good-add, good-remove, good-left, good-new, form-new, form-change, form-delete, A-new, A-full, A-there, B-absent, B-other, B-full, B-done, remove-address-absent, remove-address-other, remove-address-own, remove-name-absent, remove-name-kept, remove-name-gone}
 use Rattle.zone.proofs.PlaceLaws.{None, formed-all}
 

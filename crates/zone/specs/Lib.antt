@@ -1,8 +1,8 @@
 -- The rules, on the zone as names, owners and address sets.
 pub mod Zone
--- What the structs mean, and their form.
+-- What the structs mean, and the numbers of a request.
 pub mod Meaning
 -- What each public call promises.
 pub mod Promise
 -- For the contracts of inner functions; no public promise cites these.
-pub mod Survey
+pub mod Inner

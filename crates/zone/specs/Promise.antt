@@ -4,10 +4,11 @@ use mathlib.Core.Bool.{Bool, true, false, cond}
 use Prim.Native.Nat.{ℕ}
 use lib.Dec.{eqb}
 use Rattle.hosts.specs.Count.{Octets}
-use Rattle.zone.specs.declared.survey.Zone.{Zone}
+use Rattle.places.specs.declared.survey.Zone.{Zone}
 use Rattle.zone.specs.declared.request.Answered.{Answered}
 use Rattle.zone.specs.Zone.{Answer, success, YXDOMAIN, NXDOMAIN, NXRRSET, noRoom, Outcome}
-use Rattle.zone.specs.Meaning.{zoneOf, formed, listed, isFull}
+use Rattle.places.specs.Meaning.{formed, isFull}
+use Rattle.zone.specs.Meaning.{zoneOf, listed}
 
 -- The refusals in their order: the zone's form, a number that is not listed, a name that is not full. 0 is none.
 unfoldable pub refusalOf : Zone → Octets → ℕ → ℕ → ℕ

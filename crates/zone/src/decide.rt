@@ -1,17 +1,18 @@
 // What a request comes to, decided on the survey of a zone and the one place found.
-use crate::entry;
-use crate::entry::Address;
-use crate::entry::Dhcid;
-use crate::entry::Entry;
 use crate::host;
-use crate::name::Name;
-use crate::survey::Survey;
+use crate::prerequisite;
+use places::entry::Address;
+use places::entry::Dhcid;
+use places::entry::Entry;
+use places::name::Name;
+use places::survey::Survey;
 ghost use mathlib.Core.Path.{_≡_};
 ghost use mathlib.Core.Bool.{true};
 ghost use Prim.Native.Nat.{_<_};
 ghost use Rattle.zone.specs.Zone.{requestA, requestB, removeAddress, removeName};
-ghost use Rattle.zone.specs.Meaning.{nameOf, isFull, inOrder, policyOf, updateOf};
-ghost use Rattle.zone.specs.Survey.{Decides};
+ghost use Rattle.places.specs.Meaning.{nameOf, isFull, inOrder};
+ghost use Rattle.zone.specs.Meaning.{policyOf, updateOf};
+ghost use Rattle.zone.specs.Inner.{Decides};
 
 // The numbers of the answers: RFC 2136's response codes, and one of our own.
 const SUCCESS: u32 = 0;
@@ -91,7 +92,7 @@ pub(crate) fn add_address(
             entry: e,
         };
     }
-    if !entry::is_held(e, d) {
+    if !prerequisite::is_held(e, d) {
         return Change {
             answer: NXRRSET,
             place: 64,
@@ -127,7 +128,7 @@ pub(crate) fn remove_address(s: Survey, n: Name, d: Dhcid, family: u8, a: Addres
             entry: e,
         };
     }
-    if !entry::is_held(e, d) {
+    if !prerequisite::is_held(e, d) {
         return Change {
             answer: NXRRSET,
             place: 64,
@@ -154,14 +155,14 @@ pub(crate) fn remove_name(s: Survey, n: Name, d: Dhcid, family: u8, a: Address) 
             entry: e,
         };
     }
-    if !entry::is_held(e, d) {
+    if !prerequisite::is_held(e, d) {
         return Change {
             answer: NXRRSET,
             place: 64,
             entry: e,
         };
     }
-    if !entry::is_empty(e) {
+    if !prerequisite::is_empty(e) {
         return Change {
             answer: NXRRSET,
             place: 64,

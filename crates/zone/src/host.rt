@@ -1,19 +1,20 @@
 // What the requests write at one name.
-use crate::entry::Address;
-use crate::entry::Dhcid;
-use crate::entry::Entry;
-use crate::name::Name;
 use hosts::set4;
 use hosts::set4::Addr4;
 use hosts::set6;
 use hosts::set6::Addr6;
+use places::entry::Address;
+use places::entry::Dhcid;
+use places::entry::Entry;
+use places::name::Name;
 ghost use mathlib.Core.Path.{_≡_};
 ghost use mathlib.Core.Bool.{true};
 ghost use lib.ListN.{take};
 ghost use Rattle.hosts.specs.Addresses.{nothing};
 ghost use Rattle.zone.specs.Zone.{with, left, newHost};
-ghost use Rattle.zone.specs.Meaning.{nameOf, isFull, hostOf, inOrder, familyOf, policyOf, updateOf};
-ghost use Rattle.zone.specs.Survey.{Kept, Fresh, HasRoom, Joined, Parted, emptied};
+ghost use Rattle.places.specs.Meaning.{nameOf, isFull, inOrder};
+ghost use Rattle.zone.specs.Meaning.{hostOf, familyOf, policyOf, updateOf};
+ghost use Rattle.zone.specs.Inner.{Kept, Fresh, HasRoom, Joined, Parted, emptied};
 
 // The address as one of family 4, and as one of family 6.
 fn addr4(a: Address) -> Addr4

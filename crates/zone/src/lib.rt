@@ -1,9 +1,6 @@
-// The zone by value, and its requests: each tests and writes at once. One function reads the places
-// of a zone and sums them up; what follows works on that summary and on one place by value.
+// The requests on a zone by value: each tests and writes at once, on one survey of its places and on
+// the one place found.
 mod decide;
-pub mod entry;
 mod host;
-pub mod name;
-mod print;
+mod prerequisite;
 pub mod request;
-pub mod survey;

@@ -2,21 +2,22 @@
 // writes at most one place.
 use crate::decide;
 use crate::decide::Change;
-use crate::entry::Address;
-use crate::entry::Dhcid;
-use crate::entry::Entry;
-use crate::name;
-use crate::name::Name;
-use crate::survey;
-use crate::survey::Survey;
-use crate::survey::Zone;
+use places::entry::Address;
+use places::entry::Dhcid;
+use places::entry::Entry;
+use places::name;
+use places::name::Name;
+use places::survey;
+use places::survey::Survey;
+use places::survey::Zone;
 ghost use mathlib.Core.Path.{_≡_};
 ghost use mathlib.Core.Bool.{true};
 ghost use Prim.Native.Nat.{_<_};
 ghost use Rattle.zone.specs.Zone.{requestA, requestB, removeAddress, removeName};
-ghost use Rattle.zone.specs.Meaning.{nameOf, isFull, inOrder, listed, policyOf, updateOf, zoneOf};
+ghost use Rattle.places.specs.Meaning.{nameOf, isFull, inOrder};
+ghost use Rattle.zone.specs.Meaning.{listed, policyOf, updateOf, zoneOf};
 ghost use Rattle.zone.specs.Promise.{refusalOf, Promised};
-ghost use Rattle.zone.specs.Survey.{requestOf, written as writtenAt, settled, Decides, Refuses};
+ghost use Rattle.zone.specs.Inner.{requestOf, written as writtenAt, settled, Decides, Refuses};
 
 // What is sent. kind: 0 nothing, 1 request A, 2 request B, 3 the first remove request, any other the
 // second. policy: of request B; 0 where there is none.

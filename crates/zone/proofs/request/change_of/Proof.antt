@@ -1,7 +1,8 @@
 use mathlib.Core.Path.{_≡_, subst}
 use Rattle.zone.specs.Zone.{Zone, Outcome}
-use Rattle.zone.specs.Meaning.{nameOf, updateOf}
-use Rattle.zone.specs.Survey.{Decides}
+use Rattle.places.specs.Meaning.{nameOf}
+use Rattle.zone.specs.Meaning.{updateOf}
+use Rattle.zone.specs.Inner.{Decides}
 use Rattle.zone.proofs.DecideLaws.{sends-nothing, is-A, is-B, is-first, is-second}
 use borrow.Author.Needs.{needs}
 use Rattle.zone.proofs.request.change_of.Statement.{statement}

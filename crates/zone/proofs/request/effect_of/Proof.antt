@@ -1,5 +1,6 @@
-use Rattle.zone.specs.Meaning.{nameOf, updateOf}
-use Rattle.zone.specs.Survey.{requestOf}
+use Rattle.places.specs.Meaning.{nameOf}
+use Rattle.zone.specs.Meaning.{updateOf}
+use Rattle.zone.specs.Inner.{requestOf}
 use Rattle.zone.proofs.DecideLaws.{entry-order}
 use Rattle.zone.proofs.PromiseLaws.{passed, promise-refused, promise-done}
 use borrow.Author.Needs.{needs}

@@ -1,7 +1,8 @@
 use mathlib.Core.Path.{_≡_, refl}
 use Rattle.zone.specs.Zone.{requestA}
-use Rattle.zone.specs.Meaning.{nameOf, updateOf}
-use Rattle.zone.specs.Survey.{requestOf}
+use Rattle.places.specs.Meaning.{nameOf}
+use Rattle.zone.specs.Meaning.{updateOf}
+use Rattle.zone.specs.Inner.{requestOf}
 use Rattle.zone.proofs.PromiseLaws.{promise-same}
 use borrow.Author.Needs.{needs}
 use Rattle.zone.proofs.request.jespurla_request_a.Statement.{statement}

@@ -1,5 +1,5 @@
 use mathlib.Core.Path.{_≡_, ap}
-use Rattle.zone.specs.declared.survey.Zone.{Zone}
+use Rattle.places.specs.declared.survey.Zone.{Zone}
 use borrow.Author.Needs.{needs}
 use Rattle.zone.proofs.request.settle.Statement.{statement}
 use Rattle.zone.proofs.request.settle.Tie as tie

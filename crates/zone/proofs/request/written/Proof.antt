@@ -1,6 +1,6 @@
 use mathlib.Core.Path.{_≡_, sym}
 use native.Mathlib.Omega.{arith}
-use Rattle.zone.proofs.SurveyLaws.{places}
+use Rattle.places.proofs.SurveyLaws.{places}
 use Rattle.zone.proofs.PromiseLaws.{no-place}
 use borrow.Author.Needs.{needs}
 use Rattle.zone.proofs.request.written.Statement.{statement}

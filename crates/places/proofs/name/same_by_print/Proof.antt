@@ -1,0 +1,20 @@
+use mathlib.Core.Path.{_≡_, sym, _∙_}
+use lib.ListN.{take}
+use Rattle.places.proofs.PrintLaws.{print-differ}
+use borrow.Author.Needs.{needs}
+use Rattle.places.proofs.name.same_by_print.Statement.{statement}
+use Rattle.places.proofs.name.same_by_print.Tie as tie
+
+returns : tie.Need-returns
+returns c =
+    let s = c .before .before .before in
+    sym (print-differ (take (s .args .n) (s .args .o .now)) (take (s .args .m) (s .args .p .now)) (λ e. c .if1 .taken (s .pre .2 ∙ e ∙ sym (s .pre .3))))
+
+same-requires : tie.Need-same-requires
+same-requires c κs = search needs
+
+returns-2 : tie.Need-returns-2
+returns-2 c = search needs
+
+pub same-by-print-spec : {M : Type 1} → statement M
+same-by-print-spec = tie.close (tie.spec returns same-requires returns-2)

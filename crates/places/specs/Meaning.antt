@@ -1,0 +1,52 @@
+-- What names and the places of a zone mean, and the form that they must have. Document 01, "Zone, requests and jobs".
+use mathlib.Core.Bool.{Bool, true, false, cond, not, _&&_}
+use mathlib.Core.List.{List, [], _∷_}
+use lib.Dec.{eqb, leb}
+use lib.ListN.{length, take}
+use Rattle.dname.specs.Name.{shapeOf, key}
+use Rattle.dname.specs.declared.Shape.{Shape}
+use Rattle.dname.specs.declared.Shape.the-variants.{Empty, Full, Partial, Malformed}
+use Rattle.hosts.specs.Count.{Octets, distinct}
+use Rattle.hosts.specs.Addresses.{list4, list6, sound}
+use Rattle.places.specs.declared.name.Name.{Name}
+use Rattle.places.specs.declared.entry.Entry.{Entry}
+use Rattle.places.specs.declared.survey.Zone.{Zone}
+
+-- A name: as many of its octets as its length says.
+abbrev pub nameOf : Name → Octets
+nameOf n = take (n .len) (n .octets)
+
+abbrev pub full : Shape → Bool
+full Empty = false
+full Full = true
+full Partial = false
+full Malformed = false
+
+unfoldable pub isFull : Octets → Bool
+isFull n = full (shapeOf n)
+
+-- One place of a zone: free where its kind is 0, and then the rest does not matter. Kind 1 is a static name, whose DHCID does not matter.
+unfoldable pub used : Entry → Bool
+used e = not (eqb (e .kind) 0)
+
+abbrev pub keyOf : Entry → Octets
+keyOf e = key (nameOf (e .name))
+
+-- The keys of the names that stand at places.
+unfoldable pub keys : List Entry → List Octets
+keys [] = []
+keys (e ∷ es) = cond (used e) (keyOf e ∷ keys es) (keys es)
+
+-- ---- the form: what breaks it is refusal 17
+
+-- A place in order: free, or a static (1) or held (2) name that is full, with at most four addresses a family, no two equal.
+unfoldable pub inOrder : Entry → Bool
+inOrder e = leb (e .kind) 2 && (isFull (nameOf (e .name)) && (sound (e .v4 .count) (list4 (e .v4)) && sound (e .v6 .count) (list6 (e .v6))))
+
+unfoldable pub allInOrder : List Entry → Bool
+allInOrder [] = true
+allInOrder (e ∷ es) = cond (used e) (inOrder e) true && allInOrder es
+
+-- There are 64 places, every one is in order, and no two names are equal.
+unfoldable pub formed : Zone → Bool
+formed z = eqb (length (z .entries)) 64 && (allInOrder (z .entries) && distinct (keys (z .entries)))

@@ -1,0 +1,137 @@
+// The 64 places of a zone, summed up.
+use crate::entry;
+use crate::entry::Entry;
+use crate::name;
+use crate::name::Name;
+use crate::print;
+ghost use mathlib.Core.Path.{_≡_};
+ghost use mathlib.Core.Bool.{true, cond, _&&_};
+ghost use lib.ListN.{drop};
+ghost use Prim.Native.Nat.{_≤_, _<_};
+ghost use Rattle.dname.specs.Name.{key};
+ghost use Rattle.hosts.specs.Count.{distinct, member};
+ghost use Rattle.places.specs.Meaning.{nameOf, keys};
+ghost use Rattle.places.specs.Survey.{Surveyed};
+
+#[repr(C)]
+pub struct Zone {
+    pub entries: [Entry; 64],
+}
+
+// inorder: every place is in order. distinct: no two names are equal. found: the place of the wanted
+// name, and free: a free place, each 64 where there is none. entry: what stands at the place found.
+pub struct Survey {
+    pub inorder: bool,
+    pub distinct: bool,
+    pub found: usize,
+    pub free: usize,
+    pub entry: Entry,
+}
+
+fn both(a: bool, b: bool) -> bool
+    ensures { λ r. ⌜ r ≡ (a && b) ⌝ }
+{
+    if a { b } else { false }
+}
+
+fn choose(b: bool, x: usize, y: usize) -> usize
+    ensures { λ r. ⌜ r ≡ cond b x y ⌝ }
+{
+    if b { x } else { y }
+}
+
+// Whether the name stands at a place or behind it.
+fn named_from(z: Zone, n: Name, from: usize) -> bool
+    requires { ⌜ from ≤ 64 ⌝ }
+    ensures { λ r. ⌜ r ≡ member (key (nameOf n)) (keys (drop from (z .entries))) ⌝ }
+{
+    let mut i = from;
+    while i < 64 {
+        let e = z.entries[i];
+        if entry::is_named(e, n) {
+            return true;
+        }
+        i += 1;
+    }
+    false
+}
+
+// Whether no two names are equal, name by name.
+fn distinct_names(z: Zone) -> bool
+    ensures { λ r. ⌜ r ≡ distinct (keys (z .entries)) ⌝ }
+{
+    let mut i: usize = 0;
+    while i < 64 {
+        let e = z.entries[i];
+        i += 1;
+        if e.kind != 0 {
+            let n = e.name;
+            if named_from(z, n, i) {
+                return false;
+            }
+        }
+    }
+    true
+}
+
+// Whether no two names are equal. The places are read again only where two fingerprints are equal.
+fn names_differ(z: Zone, clear: bool) -> bool
+    requires { ⌜ (clear ≡ true → distinct (keys (z .entries)) ≡ true) ⌝ }
+    ensures { λ r. ⌜ r ≡ distinct (keys (z .entries)) ⌝ }
+{
+    if clear {
+        return true;
+    }
+    distinct_names(z)
+}
+
+// The one walk over all places. It tells names apart by their fingerprints: where two of those are
+// equal, the names are compared.
+pub fn survey_of(z: Zone, wanted: Name) -> Survey
+    ensures { λ r. ⌜ Surveyed z (nameOf wanted) r ⌝ }
+{
+    let print = name::print(&wanted.octets, wanted.len);
+    let mut prints = [0u32; 64];
+    let mut used: usize = 0;
+    let mut inorder = true;
+    let mut found: usize = 64;
+    let mut free: usize = 64;
+    let mut i: usize = 0;
+    while i < 64 {
+        let kind = z.entries[i].kind;
+        if kind == 0 {
+            free = i;
+            i += 1;
+        } else {
+            let e = z.entries[i];
+            let own = name::print(&e.name.octets, e.name.len);
+            prints[used] = own;
+            used += 1;
+            let full = name::are_full(&e.name.octets, e.name.len);
+            let sets = entry::are_sets_sound(e.v4, e.v6);
+            let fine = entry::is_in_order(kind, full, sets);
+            inorder = both(inorder, fine);
+            let named = name::same_by_print(
+                own,
+                &e.name.octets,
+                e.name.len,
+                print,
+                &wanted.octets,
+                wanted.len,
+            );
+            found = choose(named, i, found);
+            i += 1;
+        }
+    }
+    let repeats = print::repeats(&prints[..used]);
+    let distinct = names_differ(z, !repeats);
+    let at = choose(found < 64, found, 0);
+    let e = z.entries[at];
+    Survey {
+        inorder: inorder,
+        distinct: distinct,
+        found: found,
+        free: free,
+        entry: e,
+    }
+}
