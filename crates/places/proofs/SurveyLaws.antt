@@ -131,6 +131,9 @@ chosen-below found = go (ltb found 64) refl
 pub chosen-found : (found : ℕ) → found < 64 → cond (ltb found 64) found 0 ≡ found
 chosen-found found h = rw (lt-ltb found 64 h)
 
+pub chosen-none : (found : ℕ) → 64 ≤ found → cond (ltb found 64) found 0 ≡ 0
+chosen-none found h = rw (le-ltb found 64 h)
+
 pub getD-any : {A : Type 0} (l : List A) (i : ℕ) (d e : A) → i < length l → getD l i d ≡ getD l i e
 getD-any [] i d e h = absurd (omega arith)
 getD-any (x ∷ l) zero d e h = refl

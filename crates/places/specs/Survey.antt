@@ -2,7 +2,7 @@
 use mathlib.Core.Path.{_≡_}
 use mathlib.Core.Bool.{Bool, false, cond, not, _&&_, _||_}
 use mathlib.Core.List.{List, [], _∷_}
-use Prim.Native.Nat.{ℕ, zero, suc, _+_, _*_, _/_, _%_, _<_}
+use Prim.Native.Nat.{ℕ, zero, suc, _+_, _*_, _/_, _%_, _<_, _≤_}
 use lib.Dec.{eqb}
 use lib.ListN.{length, getD}
 use Rattle.octets.specs.Number.{numberAt}
@@ -56,6 +56,7 @@ pub record Found (z : Zone) (n : Octets) (s : Survey) : Type 0 where
   pub foundIs : s .found ≡ placeFrom (named n) 0 64 (z .entries)
   pub freeIs : s .free ≡ placeFrom (λ (e : Entry). not (used e)) 0 64 (z .entries)
   pub entryIs : (d : Entry) → s .found < 64 → s .entry ≡ getD (z .entries) (s .found) d
+  pub elseFirst : (d : Entry) → 64 ≤ s .found → s .entry ≡ getD (z .entries) 0 d
 
 pub record Surveyed (z : Zone) (n : Octets) (s : Survey) : Type 0 where
   pub places : Found z n s

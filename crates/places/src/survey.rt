@@ -19,7 +19,8 @@ pub struct Zone {
 }
 
 // inorder: every place is in order. distinct: no two names are equal. found: the place of the wanted
-// name, and free: a free place, each 64 where there is none. entry: what stands at the place found.
+// name, and free: a free place, each 64 where there is none. entry: what stands at the place found, or
+// at the first where none is.
 pub struct Survey {
     pub inorder: bool,
     pub distinct: bool,

@@ -10,7 +10,7 @@ use Rattle.places.specs.declared.entry.Entry.{Entry}
 use Rattle.places.specs.Meaning.{nameOf, used as isUsed, keys, allInOrder}
 use Rattle.places.specs.Survey.{printWords, printOf, repeated, named, placeFrom}
 use Rattle.places.proofs.PrintLaws.{prefix-length, clear-distinct}
-use Rattle.places.proofs.SurveyLaws.{blank, places, order-step, order-used, place-step, free-step, print-put, print-free, named-free, named-used, order-free, order-end, place-end, print-end, chosen-below, chosen-found, getD-any}
+use Rattle.places.proofs.SurveyLaws.{blank, places, order-step, order-used, place-step, free-step, print-put, print-free, named-free, named-used, order-free, order-end, place-end, print-end, chosen-below, chosen-found, chosen-none, getD-any}
 use Rattle.places.proofs.survey.survey_of.Statement.{statement}
 use Rattle.places.proofs.survey.survey_of.Tie as tie
 
@@ -179,6 +179,7 @@ returns c =
         foundIs = sym (w .wanted ∙ place-end es (l .i) h _ (l .found));
         freeIs = sym (w .spare ∙ place-end es (l .i) h _ (l .free));
         entryIs = λ d f. ap (λ (m : ℕ). getD es m blank) (c .before .choose2 .ensures ∙ chosen-found (l .found) f) ∙ getD-any es (l .found) blank d (omega arith);
+        elseFirst = λ d f. ap (λ (m : ℕ). getD es m blank) (c .before .choose2 .ensures ∙ chosen-none (l .found) f) ∙ getD-any es 0 blank d (omega arith);
       };
       distinctIs = c .before .before .names-differ .ensures;
     }
