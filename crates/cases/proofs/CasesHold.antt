@@ -7,8 +7,8 @@ use Rattle.octets.specs.Compare.{sameOctets}
 use Rattle.octets.specs.Number.{numberAt, bigEndian}
 use Rattle.clock.specs.Clock.{isExpiry, isPast, isAhead, expiryAfter, secondsLeft, secondsSince}
 use Rattle.serverlist.specs.Entries.{keep, oneOf, each, distinct, removed, renewed, evicted, roomed, inserted, named, namedAll}
-use Rattle.rdnss.specs.Area.{isWhole, options, isArea, acts, addressesFrom}
 use Rattle.serverlist.specs.Servers.{packed, isSound, isTimely}
+use Rattle.rdnss.specs.Area.{isWhole, options, isArea, acts, addressesFrom}
 use Rattle.rdnss.specs.ServerList.{optionApplied, serverList}
 use Rattle.lease.specs.Lease.{allZero, hardwareFits, lengthsFit, momentsFit, wellFormed, activeAt, hasClientId, ranksBefore}
 use Rattle.leasepacket.specs.Options as packetOptions

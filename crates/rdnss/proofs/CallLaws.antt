@@ -9,13 +9,13 @@ use borrow.Author.Tests.{le-leb, lt-leb, eq-eqb, ne-eqb}
 use Rattle.clock.specs.Clock.{expiryAfter}
 use Rattle.clock.specs.declared.Moment.{Moment}
 use Rattle.serverlist.specs.Entries.{places, removed, namedAll}
-use Rattle.rdnss.specs.Area.{isWhole, isArea, acts, lifetimeOf, addresses}
 use Rattle.serverlist.specs.Servers.{servers, held, packed, isSound, isTimely}
-use Rattle.rdnss.specs.ServerList.{applied, answer, optionApplied, serverList}
 use Rattle.serverlist.specs.declared.Server.{Server}
 use Rattle.serverlist.specs.declared.ServerList.{ServerList}
 use Rattle.serverlist.proofs.EntryLaws.{cond-case}
 use Rattle.serverlist.proofs.MarkLaws.{withdrawn-all, all-fits}
+use Rattle.rdnss.specs.Area.{isWhole, isArea, acts, lifetimeOf, addresses}
+use Rattle.rdnss.specs.ServerList.{applied, answer, optionApplied, serverList}
 
 module _ (clock : Moment) (l : List Server) (v : List ℕ) where
   pub ignored : acts v ≡ false → optionApplied clock l v ≡ l

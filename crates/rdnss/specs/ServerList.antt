@@ -12,13 +12,14 @@ use Rattle.serverlist.specs.Servers.{servers, held, packed, isSound, isTimely, 
 use Rattle.rdnss.specs.declared.ServerListAnswer.{ServerListAnswer}
 use Rattle.rdnss.specs.Area.{options, isArea, acts, lifetimeOf, addresses}
 
--- First the expired entries go, then each option acts, or does not: Lifetime 0 withdraws, any other sets the expiry.
+-- An option acts, or does not: Lifetime 0 withdraws, any other sets the expiry.
 unfoldable pub optionApplied : Moment → List Server → List ℕ → List Server
 optionApplied clock l option =
     cond (acts option)
     (namedAll servers (eqb (lifetimeOf option .0) 0) (expiryAfter clock (lifetimeOf option)) (addresses option) l)
     l
 
+-- First the entries whose expiry is less than now go, then each option acts, from the first to the last.
 abbrev pub applied : Moment → List ℕ → List Server → List Server
 applied clock area l = foldl (optionApplied clock) (unexpired clock l) (options 0 area)
 

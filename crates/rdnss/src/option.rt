@@ -12,10 +12,10 @@ ghost use mathlib.Core.List.{foldl};
 ghost use Prim.Native.Nat.{_+_, _-_, _*_, _/_, _≤_, _<_, min};
 ghost use lib.ListN.{length, take, drop};
 ghost use Rattle.serverlist.specs.Entries.{marking, roomed, inserted, namedAll, removed};
-ghost use Rattle.rdnss.specs.Area.{acts, addressesFrom};
 ghost use Rattle.serverlist.specs.Servers.{servers, held, packed};
-ghost use Rattle.rdnss.specs.ServerList.{optionApplied};
 ghost use Rattle.serverlist.specs.Places.{InPlaces};
+ghost use Rattle.rdnss.specs.Area.{acts, addressesFrom};
+ghost use Rattle.rdnss.specs.ServerList.{optionApplied};
 ghost use Rattle.rdnss.specs.Places.{Ready, Holds, marks, OptionFits};
 
 // A list while an option is applied, and how many of its first entries this option inserted.

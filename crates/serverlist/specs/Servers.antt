@@ -1,7 +1,7 @@
 -- The DNS server list by itself. Document 01, "Server list" and, for 31 and 15, "Refusal numbers".
 use mathlib.Core.Bool.{Bool, not, _&&_}
 use mathlib.Core.List.{List, _++_}
-use Prim.Native.Nat.{ℕ, _-_}
+use Prim.Native.Nat.{_-_}
 use lib.Dec.{leb}
 use lib.ListN.{length, take, replicate}
 use Rattle.octets.specs.Compare.{sameOctets}
@@ -46,6 +46,6 @@ isSound list = leb (list .count) places && isMoment (list .clock) && (distinct s
 unfoldable pub isTimely : ServerList → Moment → Bool
 isTimely list clock = isMoment clock && leb (list .clock .0) (clock .0)
 
--- First the entries whose expiry is less than now go.
+-- The entries that are left at a clock: those whose expiry is less than it go.
 abbrev pub unexpired : Moment → List Server → List Server
 unexpired clock l = keep (λ e. not (isPast (expires e) clock)) l

@@ -2,10 +2,10 @@ use mathlib.Core.Path.{_≡_, _∙_, sym, ap}
 use mathlib.Core.Bool.{true}
 use borrow.Author.Tests.{not-true, not-false}
 use Rattle.serverlist.specs.Servers.{held, packed, unexpired, isSound, isTimely}
-use Rattle.rdnss.specs.ServerList.{applied, answer}
 use Rattle.serverlist.specs.declared.ServerList.{ServerList}
 use Rattle.serverlist.proofs.PackLaws.{of-clock, of-held, in-places}
 use Rattle.serverlist.proofs.FormLaws.{sound-count, unexpired-fits, at-clock-fits}
+use Rattle.rdnss.specs.ServerList.{applied, answer}
 use Rattle.rdnss.proofs.CallLaws.{refused-31, refused-15, refused-16, accepted, area-long, area-short}
 use borrow.Author.Needs.{needs}
 use Rattle.rdnss.proofs.jespurla_server_list.Statement.{statement}

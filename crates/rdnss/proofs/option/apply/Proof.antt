@@ -6,8 +6,8 @@ use mathlib.Core.List.{foldl}
 use mathlib.Core.Bool.{false}
 use lib.ListN.{drop, getD}
 use Rattle.serverlist.specs.Entries.{removed, namedAll}
-use Rattle.rdnss.specs.Area.{addressesFrom}
 use Rattle.serverlist.specs.Servers.{servers, held, packed}
+use Rattle.rdnss.specs.Area.{addressesFrom}
 use Rattle.rdnss.proofs.AreaLaws.{acting-length, count-fits}
 use Rattle.rdnss.proofs.CallLaws.{ignored, withdraws, names}
 use borrow.Author.Needs.{needs}

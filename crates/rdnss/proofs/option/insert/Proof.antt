@@ -4,9 +4,9 @@ use native.Mathlib.Omega.{arith}
 use Rattle.serverlist.specs.Entries.{marking, roomed, inserted}
 use Rattle.serverlist.specs.Servers.{servers, held, packed}
 use Rattle.serverlist.specs.Places.{removeAt, evictPlace}
+use Rattle.serverlist.proofs.PackLaws.{packed-held, of-clock, held-full}
 use Rattle.rdnss.specs.Places.{Holds, marks}
 use Rattle.rdnss.specs.declared.option.Placed.{Placed}
-use Rattle.serverlist.proofs.PackLaws.{packed-held, of-clock, held-full}
 use Rattle.rdnss.proofs.OptionLaws.{room-left, evict-within, own-evicted, other-evicted, room-made, put-in}
 use borrow.Author.Needs.{needs}
 use Rattle.rdnss.proofs.option.insert.Statement.{statement}

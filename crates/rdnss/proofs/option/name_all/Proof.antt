@@ -6,14 +6,14 @@ use native.Mathlib.Omega.{arith}
 use borrow.Author.Needs.{needs}
 use lib.ListN.{drop}
 use Rattle.serverlist.specs.Entries.{Marked, named, namedAll}
-use Rattle.rdnss.specs.Area.{addressesFrom}
 use Rattle.serverlist.specs.Servers.{servers, held, packed}
 use Rattle.serverlist.specs.Places.{marked, replaceAt}
-use Rattle.rdnss.specs.Places.{Ready, Holds}
 use Rattle.serverlist.specs.declared.Server.{Server}
-use Rattle.rdnss.specs.declared.option.Placed.{Placed}
 use Rattle.serverlist.proofs.MarkLaws.{marked-items, marked-none}
 use Rattle.serverlist.proofs.PackLaws.{set-packed, held-at, full-length}
+use Rattle.rdnss.specs.Area.{addressesFrom}
+use Rattle.rdnss.specs.Places.{Ready, Holds}
+use Rattle.rdnss.specs.declared.option.Placed.{Placed}
 use Rattle.rdnss.proofs.OptionLaws.{found, missing, addresses-start, addresses-more, addresses-end}
 use Rattle.rdnss.proofs.option.name_all.Statement.{statement}
 use Rattle.rdnss.proofs.option.name_all.Tie as tie
