@@ -1,5 +1,4 @@
-// The DNS server list of RFC 5006: the servers that routers name, in order of preference, each until
-// it expires.
+// The server list call: the options of a router's area, applied to the DNS server list of RFC 5006.
 pub mod area;
 pub mod list;
 pub mod option;

@@ -1,5 +1,5 @@
-// The DNS server list of RFC 5006 by itself: its entries, in order of preference, whether it is sound,
-// what of it has expired, and which entry is evicted.
+// The DNS server list of RFC 5006 by itself: the servers that routers name, in order of preference,
+// each until it expires; its form, its expiry, and which entry is evicted.
 pub mod entry;
 pub mod eviction;
 pub mod expiry;
