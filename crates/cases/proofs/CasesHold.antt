@@ -6,9 +6,10 @@ use Rattle.fqdn.specs.Answer.{byName, bySuffix, byFlags, byValue, answerOf, oct
 use Rattle.octets.specs.Compare.{sameOctets}
 use Rattle.octets.specs.Number.{numberAt, bigEndian}
 use Rattle.clock.specs.Clock.{isExpiry, isPast, isAhead, expiryAfter, secondsLeft, secondsSince}
-use Rattle.rdnss.specs.Entries.{keep, oneOf, each, distinct, removed, renewed, evicted, roomed, inserted, named, namedAll}
+use Rattle.serverlist.specs.Entries.{keep, oneOf, each, distinct, removed, renewed, evicted, roomed, inserted, named, namedAll}
+use Rattle.serverlist.specs.Servers.{packed, isSound, isTimely}
 use Rattle.rdnss.specs.Area.{isWhole, options, isArea, acts, addressesFrom}
-use Rattle.rdnss.specs.ServerList.{packed, isSound, isTimely, optionApplied, serverList}
+use Rattle.rdnss.specs.ServerList.{optionApplied, serverList}
 use Rattle.lease.specs.Lease.{allZero, hardwareFits, lengthsFit, momentsFit, wellFormed, activeAt, hasClientId, ranksBefore}
 use Rattle.leasepacket.specs.Options as packetOptions
 use Rattle.leasepacket.specs.Options.{values, checked}

@@ -15,8 +15,9 @@ use Rattle.dname.specs.Name.{key}
 use Rattle.hosts.specs.Addresses.{four}
 use Rattle.zone.specs.Zone.{Host, Zone, Update, keepOthers, requestA}
 use Rattle.job.specs.Jobs.{add, remove, Arguments, conflict, gone, Stage, beforeFirst, ended, fresh, step}
-use Rattle.rdnss.specs.ServerList.{packed, answer, serverList}
-use Rattle.rdnss.specs.declared.Server.{Server}
+use Rattle.serverlist.specs.Servers.{packed}
+use Rattle.serverlist.specs.declared.Server.{Server}
+use Rattle.rdnss.specs.ServerList.{answer, serverList}
 
 -- A case: what is asked, and what is to come of it.
 pub data Case : Type 0 where

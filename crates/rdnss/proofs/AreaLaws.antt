@@ -7,7 +7,7 @@ use native.Mathlib.Omega.{arith}
 use lib.Dec.{leb, eqb}
 use borrow.Author.Tests.{leb-true, leb-false, le-leb, lt-leb, eq-eqb, ne-eqb}
 use lib.ListN.{length, take, drop, getD, length-drop, drop-of-length-le}
-use Rattle.rdnss.proofs.EntryLaws.{and-left, and-right}
+use Rattle.serverlist.proofs.EntryLaws.{and-left, and-right}
 use native.Mathlib.Nat.{div-mul-le-self}
 use lib.Seq.{drop-drop, getD-drop, getD-take, length-take-le}
 use Rattle.rdnss.specs.Area.{isWhole, options, typeOf, lengthOf, acts}

@@ -10,19 +10,20 @@ use lib.ListN.{length, take, drop, getD}
 use lib.Seq.{drop-drop}
 use borrow.Author.Tests.{lt-ltb, le-ltb}
 use Rattle.clock.specs.declared.Moment.{Moment}
-use Rattle.rdnss.specs.Entries.{Marked, isAbout, isHeld, removed, evicted, roomed, inserted, marking, named}
+use Rattle.serverlist.specs.Entries.{Marked, isAbout, isHeld, removed, evicted, roomed, inserted, marking, named}
+use Rattle.serverlist.specs.Servers.{servers, packed, held, blank}
+use Rattle.serverlist.specs.Places.{InPlaces, marked, place, insertAt, removeAt, replaceAt, evictPlace}
+use Rattle.serverlist.specs.declared.Address6.{Address6}
+use Rattle.serverlist.specs.declared.Server.{Server}
+use Rattle.serverlist.specs.declared.ServerList.{ServerList}
+use Rattle.serverlist.proofs.EntryLaws.{evict-lt}
+use Rattle.serverlist.proofs.PlaceLaws.{one-place, removed-length, inserted-length, replaced-length}
+use Rattle.serverlist.proofs.MarkLaws.{marked-length, one-marked, inserted-marked, renewed-marked, removed-at, removed-none, removed-le, renewed-at, evicted-own, evicted-other, roomed-yes, roomed-no, roomed-length, named-present, named-absent}
+use Rattle.serverlist.proofs.PackLaws.{of-clock, of-count, of-held, in-places, held-length}
+use Rattle.serverlist.proofs.ServerLaws.{ordered}
 use Rattle.rdnss.specs.Area.{addressesFrom}
-use Rattle.rdnss.specs.ServerList.{servers, packed, held, blank}
-use Rattle.rdnss.specs.Places.{InPlaces, Ready, Holds, marks, marked, place, insertAt, removeAt, replaceAt, evictPlace}
-use Rattle.rdnss.specs.declared.Address6.{Address6}
-use Rattle.rdnss.specs.declared.Server.{Server}
-use Rattle.rdnss.specs.declared.ServerList.{ServerList}
+use Rattle.rdnss.specs.Places.{Ready, Holds, marks}
 use Rattle.rdnss.specs.declared.option.Placed.{Placed}
-use Rattle.rdnss.proofs.EntryLaws.{evict-lt}
-use Rattle.rdnss.proofs.PlaceLaws.{one-place, removed-length, inserted-length, replaced-length}
-use Rattle.rdnss.proofs.MarkLaws.{marked-length, one-marked, inserted-marked, renewed-marked, removed-at, removed-none, removed-le, renewed-at, evicted-own, evicted-other, roomed-yes, roomed-no, roomed-length, named-present, named-absent}
-use Rattle.rdnss.proofs.PackLaws.{of-clock, of-count, of-held, in-places, held-length}
-use Rattle.rdnss.proofs.ServerLaws.{ordered}
 
 -- what a packed list holds, with its first n entries marked
 pub holding : (c : Moment) (d : List Server) (n : ℕ) {m : ServerList} (l : List (Marked Server)) → m ≡ packed c d → length d ≤ 8 → n ≤ length d → marked n d ≡ l → Holds c l (record { list = m; at = n })

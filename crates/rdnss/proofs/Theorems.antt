@@ -9,19 +9,21 @@ use lib.ListN.{length}
 use borrow.Author.Tests.{le-leb}
 use Rattle.clock.specs.Clock.{isMoment, isExpiry, isPast, expiryAfter}
 use Rattle.clock.specs.declared.Moment.{Moment}
-use Rattle.rdnss.specs.Entries.{Kind, places, unmarked, oneOf, each, isHeld, distinct, evicted}
+use Rattle.serverlist.specs.Entries.{Kind, places, unmarked, oneOf, each, isHeld, distinct, evicted}
+use Rattle.serverlist.specs.Servers.{servers, held, packed, expires, isSound, isTimely, unexpired}
+use Rattle.serverlist.specs.declared.Address6.{Address6}
+use Rattle.serverlist.specs.declared.Server.{Server}
+use Rattle.serverlist.specs.declared.ServerList.{ServerList}
+use Rattle.serverlist.proofs.EntryLaws.{Ordered, cond-case, and-both, and-left, and-right, or-left, or-right, one-some, each-cons, itself, before-all, through}
+use Rattle.serverlist.proofs.SoundLaws.{part-each, part-distinct, keep-part}
+use Rattle.serverlist.proofs.ServerLaws.{ordered, lawful, is-expiry-after}
+use Rattle.serverlist.proofs.PackLaws.{packed-held}
+use Rattle.serverlist.proofs.FormLaws.{orderly, sound-count, unexpired-fits}
 use Rattle.rdnss.specs.Area.{options, isArea, acts, lifetimeOf, addresses}
-use Rattle.rdnss.specs.ServerList.{servers, held, packed, expires, isSound, isTimely, unexpired, optionApplied, applied, serverList}
+use Rattle.rdnss.specs.ServerList.{optionApplied, applied, serverList}
 use Rattle.rdnss.specs.Claims.{Evicts, EvictsFirst, StaysSound, namedBy, isNamed, KeepsOptions, KeepsUnnamed, WithdrawsLast}
-use Rattle.rdnss.specs.declared.Address6.{Address6}
-use Rattle.rdnss.specs.declared.Server.{Server}
-use Rattle.rdnss.specs.declared.ServerList.{ServerList}
-use Rattle.rdnss.proofs.EntryLaws.{Ordered, cond-case, and-both, and-left, and-right, or-left, or-right, one-some, each-cons, itself, before-all, through}
-use Rattle.rdnss.proofs.SoundLaws.{part-each, part-distinct, keep-part}
 use Rattle.rdnss.proofs.NamingLaws.{all-distinct, all-each, all-stay-absent, keys-kept, withdrawn-absent}
-use Rattle.rdnss.proofs.ServerLaws.{ordered, lawful, is-expiry-after}
-use Rattle.rdnss.proofs.PackLaws.{packed-held}
-use Rattle.rdnss.proofs.CallLaws.{orderly, refused-31, refused-15, refused-16, accepted, sound-count, unexpired-fits, ignored, acting, withdraws, option-fits}
+use Rattle.rdnss.proofs.CallLaws.{refused-31, refused-15, refused-16, accepted, ignored, acting, withdraws, option-fits}
 
 -- evictions
 module _ {K X E : Type 0} (kind : Kind K X E) (o : Ordered kind) where

@@ -7,12 +7,13 @@ use lib.Dec.{eqb}
 use lib.ListN.{length}
 use Rattle.clock.specs.Clock.{expiryAfter}
 use Rattle.clock.specs.declared.Moment.{Moment}
-use Rattle.rdnss.specs.Entries.{Kind, Marked, places, keep, oneOf, each, isHeld, evicted, unmarked, named}
+use Rattle.serverlist.specs.Entries.{Kind, Marked, places, keep, oneOf, each, isHeld, evicted, unmarked, named}
+use Rattle.serverlist.specs.Servers.{servers, held, isSound, unexpired}
+use Rattle.serverlist.specs.declared.Address6.{Address6}
+use Rattle.serverlist.specs.declared.Server.{Server}
+use Rattle.serverlist.specs.declared.ServerList.{ServerList}
 use Rattle.rdnss.specs.Area.{options, acts, lifetimeOf, addresses}
-use Rattle.rdnss.specs.ServerList.{servers, held, isSound, unexpired, optionApplied, serverList}
-use Rattle.rdnss.specs.declared.Address6.{Address6}
-use Rattle.rdnss.specs.declared.Server.{Server}
-use Rattle.rdnss.specs.declared.ServerList.{ServerList}
+use Rattle.rdnss.specs.ServerList.{optionApplied, serverList}
 
 -- An eviction takes one entry and leaves the others as they stood. That entry expires no later than any, and all behind it expire later.
 pub record Evicts {K X E : Type 0} (kind : Kind K X E) (l : List E) : Type 0 where

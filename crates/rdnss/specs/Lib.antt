@@ -1,5 +1,4 @@
--- The definitions that the contracts cite. Entries, Area and ServerList are those of the promises, Claims says what follows from them, and Places is how the inner functions speak of the list.
-pub mod Entries
+-- The definitions that the contracts cite. Area and ServerList are those of the promise, Claims says what follows from it, and Places is how the inner functions speak of the list.
 pub mod Area
 pub mod ServerList
 pub mod Places

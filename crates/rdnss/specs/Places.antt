@@ -1,54 +1,19 @@
--- The list by its places, as the inner functions have it. No promise of a public call cites this.
-use mathlib.Core.Bool.{Bool, true, cond}
-use mathlib.Core.List.{List, [], _∷_, _++_, map, foldl}
+-- The list in its places while an area is applied, as the inner functions have it. No promise of a public call cites this.
+use mathlib.Core.Bool.{true}
+use mathlib.Core.List.{List, foldl}
 use mathlib.Core.Path.{_≡_}
-use Prim.Native.Nat.{ℕ, zero, suc, _*_, _≤_}
-use lib.Dec.{leb}
-use lib.ListN.{length, take, drop}
+use Prim.Native.Nat.{ℕ, _*_, _≤_}
+use lib.ListN.{length}
 use Rattle.clock.specs.declared.Moment.{Moment}
-use Rattle.rdnss.specs.Entries.{Kind, Marked, unmarked, oneOf}
+use Rattle.serverlist.specs.Entries.{Marked}
+use Rattle.serverlist.specs.Servers.{held, packed}
+use Rattle.serverlist.specs.Places.{marked, InPlaces}
+use Rattle.serverlist.specs.declared.Server.{Server}
+use Rattle.serverlist.specs.declared.ServerList.{ServerList}
 use Rattle.rdnss.specs.Area.{isWhole, options, lengthOf}
-use Rattle.rdnss.specs.ServerList.{held, packed, optionApplied}
-use Rattle.rdnss.specs.declared.Server.{Server}
-use Rattle.rdnss.specs.declared.ServerList.{ServerList}
+use Rattle.rdnss.specs.ServerList.{optionApplied}
 use Rattle.rdnss.specs.declared.area.Walked.{Walked}
-use Rattle.rdnss.specs.declared.list.Candidate.{Candidate}
 use Rattle.rdnss.specs.declared.option.Placed.{Placed}
-
-module _ {E : Type 0} where
-  -- The place of the first entry that passes a test; the length where there is none.
-  unfoldable pub place : (E → Bool) → List E → ℕ
-  place p [] = 0
-  place p (e ∷ l) = cond (p e) 0 (suc (place p l))
-
-  abbrev pub insertAt : ℕ → E → List E → List E
-  insertAt n e l = take n l ++ (e ∷ drop n l)
-
-  abbrev pub removeAt : ℕ → List E → List E
-  removeAt n l = take n l ++ drop (suc n) l
-
-  abbrev pub replaceAt : ℕ → E → List E → List E
-  replaceAt n e l = take n l ++ (e ∷ drop (suc n) l)
-
-  -- A list of which this option inserted the first n.
-  unfoldable pub marked : ℕ → List E → List (Marked E)
-  marked zero l = map unmarked l
-  marked (suc n) [] = []
-  marked (suc n) (e ∷ l) = record { item = e; own = true } ∷ marked n l
-
--- The place of the entry that is evicted.
-unfoldable pub evictPlace : {K X E : Type 0} → Kind K X E → List E → ℕ
-evictPlace kind [] = 0
-evictPlace kind (e ∷ l) = cond (oneOf (λ d. kind .noLater d e) l) (suc (evictPlace kind l)) 0
-
--- The candidate for eviction, or the entry at a place in front of it if that one expires before it.
-abbrev pub earlierOf : Candidate → Server → ℕ → Candidate
-earlierOf c e at = cond (leb (c .expiry .0) (e .expiry .0)) c (record { at = at; expiry = e .expiry })
-
--- The list has its entries in its places, the others blank.
-pub record InPlaces (list : ServerList) : Type 0 where
-  pub few : list .count ≤ 8
-  pub packs : list ≡ packed (list .clock) (held list)
 
 -- The entries and the marks of a list in places while an option is applied.
 abbrev pub marks : Placed → List (Marked Server)

@@ -1,8 +1,9 @@
 // The option area of a router.
-use crate::ServerList;
 use crate::option;
 use clock::Moment;
-ghost use Rattle.rdnss.specs.Places.{InPlaces, Walks};
+use serverlist::ServerList;
+ghost use Rattle.serverlist.specs.Places.{InPlaces};
+ghost use Rattle.rdnss.specs.Places.{Walks};
 
 // What came of an area: whether each of its options is there whole, and the list with each applied.
 pub(crate) struct Walked {

@@ -1,57 +1,20 @@
-// The DNS server list of RFC 5006: the servers that routers name, in order of preference, each until
-// it expires.
+// The server list call: the options of a router's area, applied to the DNS server list of RFC 5006.
 pub mod area;
-pub mod form;
 pub mod list;
 pub mod option;
 
 use clock::Moment;
+use serverlist::ServerList;
+use serverlist::expiry;
+use serverlist::form;
 ghost use mathlib.Core.Path.{_≡_};
-ghost use mathlib.Core.List.{[]};
-ghost use Rattle.rdnss.specs.ServerList.{packed, answer, serverList};
-
-// An IPv6 address.
-#[repr(C)]
-pub struct Address6 {
-    pub octets: [u8; 16],
-}
-
-// A DNS server and when it expires: a moment, or clock::NEVER.
-#[repr(C)]
-pub struct Server {
-    pub address: Address6,
-    pub expiry: Moment,
-}
-
-// The servers, the preferred one first, and the last accepted clock. Places past the count are not
-// looked at, and are zero in a list that a call made.
-#[repr(C)]
-pub struct ServerList {
-    pub entries: [Server; 8],
-    pub count: usize,
-    pub clock: Moment,
-}
+ghost use Rattle.rdnss.specs.ServerList.{answer, serverList};
 
 // The refusal number, 0 for none, and the new list; with a refusal, the list as it was handed in.
 #[repr(C)]
 pub struct ServerListAnswer {
     pub refusal: u32,
     pub list: ServerList,
-}
-
-// A list without servers.
-pub fn empty(clock: Moment) -> ServerList
-    ensures { λ r. ⌜ r ≡ packed clock [] ⌝ }
-{
-    let blank = Server {
-        address: Address6 { octets: [0; 16] },
-        expiry: Moment(0),
-    };
-    ServerList {
-        entries: [blank; 8],
-        count: 0,
-        clock: clock,
-    }
 }
 
 // A refusal and the list as it was handed in.
@@ -84,7 +47,7 @@ pub extern "C" fn jespurla_server_list(
     if 1500 < area.len() {
         return refused(16, list);
     }
-    let unexpired = list::without_expired(list, clock);
+    let unexpired = expiry::without_expired(list, clock);
     let walked = area::apply_all(unexpired, area, clock);
     if !walked.whole {
         return refused(16, list);

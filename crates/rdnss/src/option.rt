@@ -1,19 +1,22 @@
 // One option of the area, applied to the list.
-use crate::Address6;
-use crate::Server;
-use crate::ServerList;
 use crate::list;
 use clock::Moment;
 use clock::Span;
+use serverlist::Address6;
+use serverlist::Server;
+use serverlist::ServerList;
+use serverlist::eviction;
 ghost use mathlib.Core.Path.{_≡_};
 ghost use mathlib.Core.Bool.{false};
 ghost use mathlib.Core.List.{foldl};
 ghost use Prim.Native.Nat.{_+_, _-_, _*_, _/_, _≤_, _<_, min};
 ghost use lib.ListN.{length, take, drop};
-ghost use Rattle.rdnss.specs.Entries.{marking, roomed, inserted, namedAll, removed};
+ghost use Rattle.serverlist.specs.Entries.{marking, roomed, inserted, namedAll, removed};
+ghost use Rattle.serverlist.specs.Servers.{servers, held, packed};
+ghost use Rattle.serverlist.specs.Places.{InPlaces};
 ghost use Rattle.rdnss.specs.Area.{acts, addressesFrom};
-ghost use Rattle.rdnss.specs.ServerList.{servers, held, packed, optionApplied};
-ghost use Rattle.rdnss.specs.Places.{InPlaces, Ready, Holds, marks, OptionFits};
+ghost use Rattle.rdnss.specs.ServerList.{optionApplied};
+ghost use Rattle.rdnss.specs.Places.{Ready, Holds, marks, OptionFits};
 
 // A list while an option is applied, and how many of its first entries this option inserted.
 pub(crate) struct Placed {
@@ -39,7 +42,7 @@ fn insert(p: Placed, a: Address6, x: Moment) -> Placed
             at: at + 1,
         };
     }
-    let k = list::evict_place(l);
+    let k = eviction::evict_place(l);
     if k < at {
         let m = list::remove_at(l, k);
         let n = list::insert_at(m, at - 1, e);

@@ -3,8 +3,8 @@
 use clock::Moment;
 use libc::STDIN_FILENO;
 use libc::STDOUT_FILENO;
-use rdnss::Server;
-use rdnss::ServerList;
+use serverlist::Server;
+use serverlist::ServerList;
 
 // An address: 32 hexadecimal digits.
 fn print_octets(octets: [u8; 16]) {
@@ -60,7 +60,7 @@ fn main() {
     // One octet more than an area may have: of a longer input that much is enough for its refusal.
     let mut buf = [0u8; 1501];
     let n = io::read_full(STDIN_FILENO, &mut buf);
-    let answer = rdnss::jespurla_server_list(rdnss::empty(Moment(0)), Moment(0), &buf[..n]);
+    let answer = rdnss::jespurla_server_list(serverlist::empty(Moment(0)), Moment(0), &buf[..n]);
     let refusal = answer.refusal;
     if refusal != 0 {
         print_refusal(refusal);

@@ -1,19 +1,18 @@
 use mathlib.Core.Path.{_≡_, _∙_, sym, ap}
 use mathlib.Core.Bool.{true}
 use borrow.Author.Tests.{not-true, not-false}
-use Rattle.rdnss.specs.ServerList.{held, packed, unexpired, applied, answer, isSound, isTimely}
-use Rattle.rdnss.specs.declared.ServerList.{ServerList}
-use Rattle.rdnss.proofs.PackLaws.{of-clock, of-held, in-places}
-use Rattle.rdnss.proofs.CallLaws.{refused-31, refused-15, refused-16, accepted, sound-count, unexpired-fits, area-long, area-short}
+use Rattle.serverlist.specs.Servers.{held, packed, unexpired, isSound, isTimely}
+use Rattle.serverlist.specs.declared.ServerList.{ServerList}
+use Rattle.serverlist.proofs.PackLaws.{of-clock, of-held, in-places}
+use Rattle.serverlist.proofs.FormLaws.{sound-count, unexpired-fits, at-clock-fits}
+use Rattle.rdnss.specs.ServerList.{applied, answer}
+use Rattle.rdnss.proofs.CallLaws.{refused-31, refused-15, refused-16, accepted, area-long, area-short}
 use borrow.Author.Needs.{needs}
 use Rattle.rdnss.proofs.jespurla_server_list.Statement.{statement}
 use Rattle.rdnss.proofs.jespurla_server_list.Tie as tie
 use Rattle.rdnss.proofs.jespurla_server_list.Reads as reads
 use Rattle.rdnss.proofs.jespurla_server_list.Lts as lts
 use Rattle.rdnss.proofs.area.apply_all.Reads as apply-all-reads
-use Rattle.rdnss.proofs.form.is_sound.Reads as is-sound-reads
-use Rattle.rdnss.proofs.form.is_timely.Reads as is-timely-reads
-use Rattle.rdnss.proofs.list.without_expired.Reads as without-expired-reads
 use Rattle.rdnss.proofs.refused.Reads as refused-reads
 
 sound : (c : tie.Else1) → isSound (c .before .before .before .args .list) ≡ true
@@ -21,6 +20,14 @@ sound c = sym (c .before .is-sound .ensures) ∙ not-false _ (c .if1 .left)
 
 timely : (c : tie.Else2) → isTimely (c .before .before .before .before .before .args .list) (c .before .before .before .before .before .args .clock) ≡ true
 timely c = sym (c .before .is-timely .ensures) ∙ not-false _ (c .if2 .left)
+
+-- the list without what expired
+unexpiring : (c : tie.After-without-expired) →
+    let s = c .before .before .before .before .before .before .before .args in
+    c .without-expired .result ≡ packed (s .clock) (unexpired (s .clock) (held (s .list)))
+unexpiring c =
+    let s = c .before .before .before .before .before .before .before .args in
+    c .without-expired .ensures ∙ at-clock-fits (s .list) (s .clock) (sound-count (s .list) (sound (c .before .before .before .before)))
 
 is-sound-requires : tie.Need-is-sound-requires
 is-sound-requires c κs = search needs
@@ -53,12 +60,12 @@ returns-3 c =
     c .refused3 .ensures ∙ refused-16 (s .list) (s .clock) (s .area .now) (sound (c .before .before .before .before)) (timely (c .before .before)) (area-long (s .area .now) (c .before .if3 .taken))
 
 without-expired-requires : tie.Need-without-expired-requires
-without-expired-requires c κs = sound-count (c .before .before .before .before .before .before .args .list) (sound (c .before .before .before))
+without-expired-requires c κs = search needs
 
 apply-all-requires : tie.Need-apply-all-requires
 apply-all-requires c κs =
     let s = c .before .before .before .before .before .before .before .args in
-    in-places (s .clock) (unexpired (s .clock) (held (s .list))) (c .without-expired .ensures) (unexpired-fits (s .list) (s .clock) (sound-count (s .list) (sound (c .before .before .before .before))))
+    in-places (s .clock) (unexpired (s .clock) (held (s .list))) (unexpiring c) (unexpired-fits (s .list) (s .clock) (sound-count (s .list) (sound (c .before .before .before .before))))
 
 refused-requires-4 : tie.Need-refused-requires-4
 refused-requires-4 c κs = search needs
@@ -76,7 +83,7 @@ returns-5 c =
     let a = c .before .before .before .apply-all .ensures in
     let t = not-false _ (c .before .if4 .left) in
     let u = unexpired (s .clock) (held (s .list)) in
-    let h = c .before .before .before .before .without-expired .ensures in
+    let h = unexpiring (c .before .before .before .before) in
     let r : c .before .before .before .apply-all .result .list ≡ packed (s .clock) (applied (s .clock) v (held (s .list))) = a .applied t ∙ rw (of-clock (s .clock) u h, of-held (s .clock) u h) in
     ap (λ (l : ServerList). answer 0 l) r ∙ accepted (s .list) (s .clock) v (sound (c .before .before .before .before .before .before .before .before)) (timely (c .before .before .before .before .before .before)) (area-short v (c .before .before .before .before .before .if3 .left) ∙ sym (a .whole) ∙ t)
 

@@ -6,13 +6,15 @@ use native.Mathlib.Omega.{arith}
 use borrow.Author.Needs.{needs}
 use lib.ListN.{length, take, drop, getD, List·getD-eq-default}
 use Rattle.clock.specs.declared.Moment.{Moment}
+use Rattle.serverlist.specs.Servers.{held}
+use Rattle.serverlist.specs.Places.{InPlaces}
+use Rattle.serverlist.specs.declared.Server.{Server}
+use Rattle.serverlist.specs.declared.ServerList.{ServerList}
+use Rattle.serverlist.proofs.PackLaws.{of-clock, of-held, in-places, held-length}
 use Rattle.rdnss.specs.Area.{isWhole, options}
-use Rattle.rdnss.specs.ServerList.{held, optionApplied}
-use Rattle.rdnss.specs.Places.{InPlaces, Walks}
-use Rattle.rdnss.specs.declared.Server.{Server}
-use Rattle.rdnss.specs.declared.ServerList.{ServerList}
+use Rattle.rdnss.specs.ServerList.{optionApplied}
+use Rattle.rdnss.specs.Places.{Walks}
 use Rattle.rdnss.proofs.AreaLaws.{whole-at, zero-at, long-at, whole-out, options-at, part-at, part-fits, options-out, positive}
-use Rattle.rdnss.proofs.PackLaws.{of-clock, of-held, in-places, held-length}
 use Rattle.rdnss.proofs.CallLaws.{option-fits}
 use Rattle.rdnss.proofs.area.apply_all.Statement.{statement}
 use Rattle.rdnss.proofs.area.apply_all.Tie as tie

@@ -2,10 +2,10 @@ use Prim.Native.Nat.{_≤_}
 use mathlib.Core.Path.{_∙_, sym}
 use native.Mathlib.Omega.{arith}
 use lib.ListN.{length, length-map}
-use Rattle.rdnss.specs.Entries.{isAbout}
-use Rattle.rdnss.specs.ServerList.{servers, held}
-use Rattle.rdnss.specs.Places.{place}
-use Rattle.rdnss.proofs.ChainLaws.{Missed, missed-none, miss, hit}
+use Rattle.serverlist.specs.Entries.{isAbout}
+use Rattle.serverlist.specs.Servers.{servers, held}
+use Rattle.serverlist.specs.Places.{place}
+use Rattle.serverlist.proofs.ChainLaws.{Missed, missed-none, miss, hit}
 use borrow.Author.Needs.{needs}
 use Rattle.rdnss.proofs.list.find.Statement.{statement}
 use Rattle.rdnss.proofs.list.find.Tie as tie

@@ -6,7 +6,6 @@ use Rattle.rdnss.proofs.list.is_here.Statement.{statement}
 use Rattle.rdnss.proofs.list.is_here.Tie as tie
 use Rattle.rdnss.proofs.list.is_here.Reads as reads
 use Rattle.rdnss.proofs.list.is_here.Lts as lts
-use Rattle.rdnss.proofs.list.is_about.Reads as is-about-reads
 
 returns : tie.Need-returns
 returns c = simp (le-ltb _ _ (c .if1 .taken))

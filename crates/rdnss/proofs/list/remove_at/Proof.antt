@@ -3,10 +3,10 @@ use Prim.Native.Nat.{_≤_, _-_}
 use native.Mathlib.Omega.{arith}
 use lib.ListN.{length, length-set}
 use borrow.Author.Needs.{needs}
-use Rattle.rdnss.specs.ServerList.{held, blank}
-use Rattle.rdnss.specs.Places.{removeAt}
-use Rattle.rdnss.proofs.PlaceLaws.{fill, up-more, up-end, removed-length}
-use Rattle.rdnss.proofs.PackLaws.{packs, held-length, held-fill, full-length}
+use Rattle.serverlist.specs.Servers.{held, blank}
+use Rattle.serverlist.specs.Places.{removeAt}
+use Rattle.serverlist.proofs.PlaceLaws.{fill, up-more, up-end, removed-length}
+use Rattle.serverlist.proofs.PackLaws.{packs, held-length, held-fill, full-length}
 use Rattle.rdnss.proofs.list.remove_at.Statement.{statement}
 use Rattle.rdnss.proofs.list.remove_at.Tie as tie
 

@@ -5,9 +5,9 @@ use Prim.Native.Nat.{ℕ}
 use mathlib.Core.List.{foldl}
 use mathlib.Core.Bool.{false}
 use lib.ListN.{drop, getD}
-use Rattle.rdnss.specs.Entries.{removed, namedAll}
+use Rattle.serverlist.specs.Entries.{removed, namedAll}
+use Rattle.serverlist.specs.Servers.{servers, held, packed}
 use Rattle.rdnss.specs.Area.{addressesFrom}
-use Rattle.rdnss.specs.ServerList.{servers, held, packed}
 use Rattle.rdnss.proofs.AreaLaws.{acting-length, count-fits}
 use Rattle.rdnss.proofs.CallLaws.{ignored, withdraws, names}
 use borrow.Author.Needs.{needs}

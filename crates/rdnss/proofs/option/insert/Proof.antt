@@ -1,21 +1,25 @@
 use Prim.Native.Nat.{ℕ, _+_, _-_}
-use mathlib.Core.Path.{_≡_, refl, subst}
+use mathlib.Core.Path.{_≡_, _∙_, refl, ap, subst}
 use native.Mathlib.Omega.{arith}
-use Rattle.rdnss.specs.Entries.{marking, roomed, inserted}
-use Rattle.rdnss.specs.ServerList.{servers, held, packed}
-use Rattle.rdnss.specs.Places.{Holds, marks, removeAt}
+use Rattle.serverlist.specs.Entries.{marking, roomed, inserted}
+use Rattle.serverlist.specs.Servers.{servers, held, packed}
+use Rattle.serverlist.specs.Places.{removeAt, evictPlace}
+use Rattle.serverlist.proofs.PackLaws.{packed-held, of-clock, held-full}
+use Rattle.rdnss.specs.Places.{Holds, marks}
 use Rattle.rdnss.specs.declared.option.Placed.{Placed}
-use Rattle.rdnss.proofs.PackLaws.{packed-held, of-clock}
 use Rattle.rdnss.proofs.OptionLaws.{room-left, evict-within, own-evicted, other-evicted, room-made, put-in}
 use borrow.Author.Needs.{needs}
 use Rattle.rdnss.proofs.option.insert.Statement.{statement}
 use Rattle.rdnss.proofs.option.insert.Tie as tie
 use Rattle.rdnss.proofs.option.insert.Reads as reads
 use Rattle.rdnss.proofs.option.insert.Lts as lts
-use Rattle.rdnss.proofs.list.evict_place.Reads as evict-place-reads
 use Rattle.rdnss.proofs.list.insert_at.Reads as insert-at-reads
 use Rattle.rdnss.proofs.list.remove_at.Reads as remove-at-reads
 use Rattle.rdnss.proofs.list.replace.Reads as replace-reads
+
+-- the place of the entry that is evicted
+evicts : (c : tie.After-evict-place) → c .evict-place .result ≡ evictPlace servers (held (c .before .before .before .before .args .p .list))
+evicts c = c .evict-place .ensures ∙ ap (evictPlace servers) (held-full (c .before .before .before .before .pre .list) (omega arith))
 
 -- an entry of the option's own is evicted
 room : (c : tie.After-remove-at) →
@@ -23,7 +27,7 @@ room : (c : tie.After-remove-at) →
     Holds (p .list .clock) (roomed (marking servers) (marks p)) (record { list = c .remove-at .result; at = p .at - 1 })
 room c =
     let s = c .before .before .before .before .before .before in
-    own-evicted (s .args .p) (s .pre) (c .before .before .evict-place .result) (omega arith) (c .before .before .evict-place .ensures) (c .remove-at .ensures) (c .before .if2 .taken)
+    own-evicted (s .args .p) (s .pre) (c .before .before .evict-place .result) (omega arith) (evicts (c .before .before)) (c .remove-at .ensures) (c .before .if2 .taken)
 
 insert-at-requires : tie.Need-insert-at-requires
 insert-at-requires c κs = search needs
@@ -62,7 +66,7 @@ returns-2 c =
 replace-requires : tie.Need-replace-requires
 replace-requires c κs =
     let s = c .before .before .before .before .before in
-    (s .pre .list, omega (arith, s .pre .list .few), c .if2 .left, omega (arith, s .pre .list .few, c .before .evict-place .ensures, evict-within (s .args .p) (s .pre) (omega arith)))
+    (s .pre .list, omega (arith, s .pre .list .few), c .if2 .left, omega (arith, s .pre .list .few, evicts (c .before), evict-within (s .args .p) (s .pre) (omega arith)))
 
 add-t15 : tie.Need-add-t15
 add-t15 c = search needs
@@ -73,7 +77,7 @@ returns-3 c =
     let p = s .args .p in
     let k = c .before .before .evict-place .result in
     let d = removeAt k (held (p .list)) in
-    let h = other-evicted p (s .pre) k {m = packed (p .list .clock) d} (omega arith) (c .before .before .evict-place .ensures) refl (c .before .if2 .left) in
+    let h = other-evicted p (s .pre) k {m = packed (p .list .clock) d} (omega arith) (evicts (c .before .before)) refl (c .before .if2 .left) in
     put-in (p .list .clock) p (record { list = packed (p .list .clock) d; at = p .at }) (s .pre) h (s .args .a) (s .args .x)
     (rw (of-clock {m = packed (p .list .clock) d} (p .list .clock) d refl, packed-held (p .list .clock) d) (c .replace .ensures))
 

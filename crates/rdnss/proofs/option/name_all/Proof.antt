@@ -5,14 +5,15 @@ use mathlib.Core.List.{List, foldl, map}
 use native.Mathlib.Omega.{arith}
 use borrow.Author.Needs.{needs}
 use lib.ListN.{drop}
-use Rattle.rdnss.specs.Entries.{Marked, named, namedAll}
+use Rattle.serverlist.specs.Entries.{Marked, named, namedAll}
+use Rattle.serverlist.specs.Servers.{servers, held, packed}
+use Rattle.serverlist.specs.Places.{marked, replaceAt}
+use Rattle.serverlist.specs.declared.Server.{Server}
+use Rattle.serverlist.proofs.MarkLaws.{marked-items, marked-none}
+use Rattle.serverlist.proofs.PackLaws.{set-packed, held-at, full-length}
 use Rattle.rdnss.specs.Area.{addressesFrom}
-use Rattle.rdnss.specs.ServerList.{servers, held, packed}
-use Rattle.rdnss.specs.Places.{Ready, Holds, marked, replaceAt}
-use Rattle.rdnss.specs.declared.Server.{Server}
+use Rattle.rdnss.specs.Places.{Ready, Holds}
 use Rattle.rdnss.specs.declared.option.Placed.{Placed}
-use Rattle.rdnss.proofs.MarkLaws.{marked-items, marked-none}
-use Rattle.rdnss.proofs.PackLaws.{set-packed, held-at, full-length}
 use Rattle.rdnss.proofs.OptionLaws.{found, missing, addresses-start, addresses-more, addresses-end}
 use Rattle.rdnss.proofs.option.name_all.Statement.{statement}
 use Rattle.rdnss.proofs.option.name_all.Tie as tie

@@ -4,13 +4,13 @@ use mathlib.Core.List.{List, foldl}
 use native.Mathlib.Omega.{arith}
 use borrow.Author.Needs.{needs}
 use lib.ListN.{drop}
-use Rattle.rdnss.specs.Entries.{removed}
+use Rattle.serverlist.specs.Entries.{removed}
+use Rattle.serverlist.specs.Servers.{servers, held, packed}
+use Rattle.serverlist.specs.Places.{InPlaces}
+use Rattle.serverlist.specs.declared.Address6.{Address6}
+use Rattle.serverlist.specs.declared.Server.{Server}
+use Rattle.serverlist.specs.declared.ServerList.{ServerList}
 use Rattle.rdnss.specs.Area.{addressesFrom}
-use Rattle.rdnss.specs.ServerList.{servers, held, packed}
-use Rattle.rdnss.specs.Places.{InPlaces}
-use Rattle.rdnss.specs.declared.Address6.{Address6}
-use Rattle.rdnss.specs.declared.Server.{Server}
-use Rattle.rdnss.specs.declared.ServerList.{ServerList}
 use Rattle.rdnss.proofs.OptionLaws.{addresses-start, addresses-more, addresses-end, withdrawn, nothing-to-withdraw, withdrawn-places, withdrawn-held, withdrawn-clock}
 use Rattle.rdnss.proofs.option.withdraw_all.Statement.{statement}
 use Rattle.rdnss.proofs.option.withdraw_all.Tie as tie

@@ -1,0 +1,136 @@
+-- A list whose places are read one after the other, each by its own number. Assumes nothing.
+use mathlib.Core.Path.{_≡_, refl, ap, sym, _∙_}
+use mathlib.Core.Bool.{Bool, true, false, not, cond, _&&_}
+use mathlib.Core.List.{List, [], _∷_, _++_}
+use Prim.Native.Nat.{ℕ, suc, _+_, _-_, _≤_, _<_, min}
+use native.Mathlib.Numerals.{add-one}
+use native.Mathlib.Omega.{arith}
+use lib.Dec.{ltb, leb}
+use lib.ListN.{length, take, drop, getD, replicate}
+use lib.Seq.{length-take-le}
+use borrow.Author.Tests.{ltb-true, ltb-false, lt-ltb, le-ltb}
+use Rattle.serverlist.specs.Entries.{keep, oneOf}
+use Rattle.serverlist.specs.Servers.{servers, blank}
+use Rattle.serverlist.specs.Places.{place, earlierOf, evictPlace}
+use Rattle.serverlist.specs.declared.Server.{Server}
+use Rattle.serverlist.specs.declared.eviction.Candidate.{Candidate}
+use Rattle.serverlist.proofs.EntryLaws.{and-left, and-right, or-left, or-right}
+use Rattle.serverlist.proofs.PlaceLaws.{fill, one-place, place-here, place-next, place-end, evict-last, evict-keep, evict-take}
+use Rattle.serverlist.proofs.ServerLaws.{ordered}
+
+-- The search for the first entry that passes a test.
+module _ {E : Type 0} (p : E → Bool) (l : List E) (n t : ℕ) where
+  -- t is its place, and none of the places before i holds it
+  pub record Missed (i : ℕ) : Type 0 where
+    pub rest : t ≡ min i n + place p (drop i (take n l))
+
+module _ {E : Type 0} (p : E → Bool) (l : List E) (n : ℕ) where
+  pub missed-none : Missed p l n (place p (take n l)) 0
+  missed-none = record { rest = omega arith }
+
+  pub missed-behind : (i : ℕ) → Missed p l n (min i n + place p (drop i (take n l))) i
+  missed-behind i = record { rest = refl }
+
+module _ {E : Type 0} (p : E → Bool) (l : List E) (n t : ℕ) (k : n ≤ length l) where
+  pub miss : (i : ℕ) (d : E) → Missed p l n t i → (ltb i n && p (getD l i d)) ≡ false → Missed p l n t (i + 1)
+  miss i d m f = go (ltb i n) refl f
+    where
+      go : (b : Bool) → ltb i n ≡ b → (b && p (getD l i d)) ≡ false → Missed p l n t (i + 1)
+      go true q f = record { rest = omega (arith, m .rest, ltb-true i n q, place-next p l n i d (ltb-true i n q) k f) }
+      go false q f =
+          record { rest = omega (arith, m .rest, ltb-false i n q, place-end p l n i (ltb-false i n q) k, place-end p l n (i + 1) (omega (arith, ltb-false i n q)) k) }
+
+  pub hit : (i : ℕ) (d : E) → Missed p l n t i → (ltb i n && p (getD l i d)) ≡ true → i ≡ t
+  hit i d m f =
+      let h = ltb-true i n (and-left (ltb i n) (p (getD l i d)) f) in
+      omega (arith, m .rest, h, place-here p l n i d h k (and-right (ltb i n) (p (getD l i d)) f))
+
+  pub missed-all : (i : ℕ) → n ≤ i → Missed p l n t i → n ≡ t
+  missed-all i h m = omega (arith, m .rest, place-end p l n i h k)
+
+-- Whether an entry passes a test.
+module _ {E : Type 0} (p : E → Bool) (l : List E) (n : ℕ) (k : n ≤ length l) where
+  pub hit-one : (i : ℕ) (d : E) → Missed p l n (place p (take n l)) i → (ltb i n && p (getD l i d)) ≡ true → true ≡ oneOf p (take n l)
+  hit-one i d m f =
+      let h = hit p l n (place p (take n l)) k i d m f in
+      let q = ltb-true i n (and-left (ltb i n) (p (getD l i d)) f) in
+      sym (one-place p (take n l) ∙ lt-ltb (place p (take n l)) (length (take n l)) (omega (arith, length-take-le n l k)))
+
+  pub missed-each : (i : ℕ) → n ≤ i → Missed p l n (place p (take n l)) i → false ≡ oneOf p (take n l)
+  missed-each i b m =
+      let h = missed-all p l n (place p (take n l)) k i b m in
+      sym (one-place p (take n l) ∙ le-ltb (place p (take n l)) (length (take n l)) (omega (arith, length-take-le n l k)))
+
+-- where none passes a test, keeping the others keeps all
+pub keep-all : {E : Type 0} (p : E → Bool) (l : List E) → oneOf p l ≡ false → keep (λ e. not (p e)) l ≡ l
+unfolding keep oneOf
+keep-all p [] h = refl
+keep-all p (e ∷ l) h = rw (or-left (p e) (oneOf p l) h, keep-all p l (or-right (p e) (oneOf p l) h))
+
+-- The first n entries, the places behind them filled with z.
+module _ {E : Type 0} (z : E) where
+  unfoldable filled : ℕ → ℕ → List E → List E
+  filled i n [] = []
+  filled i n (e ∷ l) = cond (ltb i n) e z ∷ filled (suc i) n l
+
+  filled-is : (i n : ℕ) (l : List E) → n ≤ i + length l → filled i n l ≡ take (n - i) l ++ replicate (length l - (n - i)) z
+  unfolding filled
+  filled-is i n [] b =
+      let e : n - i ≡ 0 = omega arith in
+      rw e
+  filled-is i n (x ∷ l) b = go (ltb i n) refl (filled-is (suc i) n l (omega arith))
+    where
+      go : (c : Bool) → ltb i n ≡ c → filled (suc i) n l ≡ take (n - suc i) l ++ replicate (length l - (n - suc i)) z
+          → cond c x z ∷ filled (suc i) n l ≡ take (n - i) (x ∷ l) ++ replicate (suc (length l) - (n - i)) z
+      go true q m =
+          let h = ltb-true i n q in
+          let e : n - i ≡ suc (n - suc i) = omega arith in
+          let f : suc (length l) - suc (n - suc i) ≡ length l - (n - suc i) = omega arith in
+          rw (e, f) (ap (λ (r : List E). x ∷ r) m)
+      go false q m =
+          let h = ltb-false i n q in
+          let e : n - i ≡ 0 = omega arith in
+          let f : n - suc i ≡ 0 = omega arith in
+          let g : suc (length l) - 0 ≡ suc (length l) = omega arith in
+          let o : length l - 0 ≡ length l = omega arith in
+          let r : filled (suc i) n l ≡ replicate (length l) z = rw (f, o) at m in
+          rw (e, g) (ap (λ (t : List E). z ∷ t) r)
+
+  pub eight : (l : List E) (n : ℕ) (d : E) → length l ≡ 8 → n ≤ 8 →
+      (cond (ltb 0 n) (getD l 0 d) z ∷ cond (ltb 1 n) (getD l 1 d) z ∷ cond (ltb 2 n) (getD l 2 d) z ∷ cond (ltb 3 n) (getD l 3 d) z ∷
+      cond (ltb 4 n) (getD l 4 d) z ∷ cond (ltb 5 n) (getD l 5 d) z ∷ cond (ltb 6 n) (getD l 6 d) z ∷ cond (ltb 7 n) (getD l 7 d) z ∷ []) ≡ fill z (take n l)
+  unfolding filled
+  eight [] n d h b = absurd (omega arith)
+  eight (a₀ ∷ []) n d h b = absurd (omega arith)
+  eight (a₀ ∷ a₁ ∷ []) n d h b = absurd (omega arith)
+  eight (a₀ ∷ a₁ ∷ a₂ ∷ []) n d h b = absurd (omega arith)
+  eight (a₀ ∷ a₁ ∷ a₂ ∷ a₃ ∷ []) n d h b = absurd (omega arith)
+  eight (a₀ ∷ a₁ ∷ a₂ ∷ a₃ ∷ a₄ ∷ []) n d h b = absurd (omega arith)
+  eight (a₀ ∷ a₁ ∷ a₂ ∷ a₃ ∷ a₄ ∷ a₅ ∷ []) n d h b = absurd (omega arith)
+  eight (a₀ ∷ a₁ ∷ a₂ ∷ a₃ ∷ a₄ ∷ a₅ ∷ a₆ ∷ []) n d h b = absurd (omega arith)
+  eight (a₀ ∷ a₁ ∷ a₂ ∷ a₃ ∷ a₄ ∷ a₅ ∷ a₆ ∷ a₇ ∷ []) n d h b =
+      let l = a₀ ∷ a₁ ∷ a₂ ∷ a₃ ∷ a₄ ∷ a₅ ∷ a₆ ∷ a₇ ∷ [] in
+      let e : n - 0 ≡ n = omega arith in
+      let f : length (take n l) ≡ n = length-take-le n l b in
+      filled-is 0 n l b ∙ rw (e, f)
+  eight (a₀ ∷ a₁ ∷ a₂ ∷ a₃ ∷ a₄ ∷ a₅ ∷ a₆ ∷ a₇ ∷ a₈ ∷ l) n d h b = absurd (omega arith)
+
+-- The search for the entry that is evicted, from the back.
+module _ (l : List Server) where
+  -- the candidate among the entries from place i on
+  pub record Foremost (i : ℕ) (c : Candidate) : Type 0 where
+    pub place : c .at ≡ i + evictPlace servers (drop i l)
+    pub expiry : c .expiry ≡ getD l (c .at) blank .expiry
+
+  pub foremost-last : (i : ℕ) (e : Server) → length l ≡ i + 1 → e ≡ getD l i blank → Foremost i (record { at = i; expiry = e .expiry })
+  foremost-last i e h q = record { place = omega (arith, evict-last servers ordered l blank i h); expiry = ap (λ (s : Server). s .expiry) q }
+
+  pub foremost-more : (i : ℕ) {c : Candidate} (e : Server) → 0 < i → i < length l → e ≡ getD l (i - 1) blank → Foremost i c → Foremost (i - 1) (earlierOf c e (i - 1))
+  foremost-more i {c} e p h q f = go (leb (c .expiry .0) (e .expiry .0)) refl
+    where
+      told : (b : Bool) → leb (c .expiry .0) (e .expiry .0) ≡ b → servers .noLater (getD l (c .at) blank) (getD l (i - 1) blank) ≡ b
+      told b t = rw (← f .expiry, ← q) t
+
+      go : (b : Bool) → leb (c .expiry .0) (e .expiry .0) ≡ b → Foremost (i - 1) (cond b c (record { at = i - 1; expiry = e .expiry }))
+      go true t = record { place = evict-keep servers ordered l blank i (c .at) p h (f .place) (told true t); expiry = f .expiry }
+      go false t = record { place = evict-take servers ordered l blank i (c .at) p h (f .place) (told false t); expiry = ap (λ (s : Server). s .expiry) q }

@@ -1,0 +1,168 @@
+-- The laws of a list of entries, whatever an entry is about and however it expires. Assumes nothing.
+use mathlib.Core.Path.{_≡_, refl, ap, sym, _∙_}
+use mathlib.Core.Bool.{Bool, true, false, cond, _&&_, _||_, or-true, true≢false, false≢true}
+use mathlib.Core.List.{List, [], _∷_, _++_, append-nil}
+use Prim.Native.Nat.{ℕ, zero, suc, _+_, _≤_, _<_}
+use native.Mathlib.Numerals.{add-one}
+use native.Mathlib.Omega.{arith}
+use lib.ListN.{length, take, getD}
+use lib.Seq.{take-suc}
+use Rattle.serverlist.specs.Entries.{Kind, keep, oneOf, each}
+use Rattle.serverlist.specs.Places.{evictPlace}
+
+-- a choice, by the way it went
+module _ {A : Type 0} (P : A → Type 0) where
+  pub cond-case : (b : Bool) {x y : A} → (b ≡ true → P x) → (b ≡ false → P y) → P (cond b x y)
+  cond-case true f g = f refl
+  cond-case false f g = g refl
+
+pub and-both : (a b : Bool) → a ≡ true → b ≡ true → (a && b) ≡ true
+and-both a b h k = rw (h, k)
+
+pub and-left : (a b : Bool) → (a && b) ≡ true → a ≡ true
+and-left true b h = refl
+and-left false b h = h
+
+pub and-right : (a b : Bool) → (a && b) ≡ true → b ≡ true
+and-right true b h = h
+and-right false b h = absurd (false≢true h)
+
+pub or-left : (a b : Bool) → (a || b) ≡ false → a ≡ false
+or-left true b h = h
+or-left false b h = refl
+
+pub or-right : (a b : Bool) → (a || b) ≡ false → b ≡ false
+or-right true b h = absurd (true≢false h)
+or-right false b h = h
+
+module _ {E : Type 0} (p : E → Bool) where
+  pub one-nil : oneOf p [] ≡ false
+  unfolding oneOf
+  one-nil = refl
+
+  pub keep-append : (l m : List E) → keep p (l ++ m) ≡ keep p l ++ keep p m
+  unfolding keep
+  keep-append [] m = refl
+  keep-append (e ∷ l) m = go (p e) (keep-append l m)
+    where
+      go : (b : Bool) → keep p (l ++ m) ≡ keep p l ++ keep p m
+          → cond b (e ∷ keep p (l ++ m)) (keep p (l ++ m)) ≡ cond b (e ∷ keep p l) (keep p l) ++ keep p m
+      go true h = ap (λ (x : List E). e ∷ x) h
+      go false h = h
+
+  pub keep-length : (l : List E) → length (keep p l) ≤ length l
+  unfolding keep
+  keep-length [] = omega arith
+  keep-length (e ∷ l) = go (p e) (keep-length l)
+    where
+      go : (b : Bool) → length (keep p l) ≤ length l → length (cond b (e ∷ keep p l) (keep p l)) ≤ suc (length l)
+      go true h = omega arith
+      go false h = omega arith
+
+  pub keep-nil : keep p [] ≡ []
+  unfolding keep
+  keep-nil = refl
+
+module _ {E : Type 0} (p : E → Bool) (l : List E) (i : ℕ) (d : E) (h : i < length l) where
+  keep-one : keep p (take (i + 1) l) ≡ keep p (take i l) ++ cond (p (getD l i d)) (getD l i d ∷ []) []
+  unfolding keep
+  keep-one = rw (add-one, take-suc l i d) (keep-append p (take i l) (getD l i d ∷ []))
+
+  -- a turn of the loop that keeps
+  pub keep-yes : p (getD l i d) ≡ true → keep p (take (i + 1) l) ≡ keep p (take i l) ++ (getD l i d ∷ [])
+  keep-yes t = rw (keep-one, t)
+
+  pub keep-no : p (getD l i d) ≡ false → keep p (take (i + 1) l) ≡ keep p (take i l)
+  keep-no t = rw (keep-one, t) (append-nil (keep p (take i l)))
+
+-- what holds of one entry and of each
+module _ {E : Type 0} (p : E → Bool) where
+  pub one-at : (l : List E) (i : ℕ) (d : E) → i < length l → p (getD l i d) ≡ true → oneOf p l ≡ true
+  unfolding oneOf
+  one-at [] i d h t = absurd (omega arith)
+  one-at (e ∷ l) zero d h t = rw t
+  one-at (e ∷ l) (suc i) d h t = rw (one-at l i d (omega arith) t) (or-true (p e))
+
+  pub one-some : (l : List E) → oneOf p l ≡ true → 0 < length l
+  unfolding oneOf
+  one-some [] t = absurd (false≢true t)
+  one-some (e ∷ l) t = omega arith
+
+  pub each-cons : (e : E) (l : List E) → p e ≡ true → each p l ≡ true → each p (e ∷ l) ≡ true
+  unfolding each
+  each-cons e l h k = rw (h, k)
+
+  pub each-head : (e : E) (l : List E) → each p (e ∷ l) ≡ true → p e ≡ true
+  unfolding each
+  each-head e l h = and-left (p e) (each p l) h
+
+  pub each-tail : (e : E) (l : List E) → each p (e ∷ l) ≡ true → each p l ≡ true
+  unfolding each
+  each-tail e l h = and-right (p e) (each p l) h
+
+module _ {E : Type 0} (p q : E → Bool) where
+  -- none passes p, and what does not pass p passes q
+  pub each-else : (l : List E) → oneOf p l ≡ false → ((e : E) → p e ≡ false → q e ≡ true) → each q l ≡ true
+  unfolding oneOf each
+  each-else [] n f = refl
+  each-else (e ∷ l) n f = rw (f e (or-left (p e) (oneOf p l) n), each-else l (or-right (p e) (oneOf p l) n) f)
+
+  -- one passes p, and each passes q
+  pub one-each : {C : Type 0} (l : List E) → oneOf p l ≡ true → each q l ≡ true → ((e : E) → p e ≡ true → q e ≡ true → C) → C
+  unfolding oneOf each
+  one-each [] o a f = absurd (false≢true o)
+  one-each {C} (e ∷ l) o a f = go (p e) refl o (λ h. one-each l h (and-right (q e) (each q l) a) f)
+    where
+      go : (b : Bool) → p e ≡ b → (b || oneOf p l) ≡ true → (oneOf p l ≡ true → C) → C
+      go true t h i = f e t (and-left (q e) (each q l) a)
+      go false t h i = i h
+
+-- An order of expiries: of any two entries one expires no later than the other, and so on along.
+pub record Ordered {K X E : Type 0} (kind : Kind K X E) : Type 0 where
+  pub total : (d e : E) → kind .noLater d e ≡ false → kind .noLater e d ≡ true
+  pub along : (c d e : E) → kind .noLater c d ≡ true → kind .noLater d e ≡ true → kind .noLater c e ≡ true
+
+module _ {K X E : Type 0} (kind : Kind K X E) (o : Ordered kind) where
+  pub itself : (e : E) → kind .noLater e e ≡ true
+  itself e = go (kind .noLater e e) refl
+    where
+      go : (b : Bool) → kind .noLater e e ≡ b → kind .noLater e e ≡ true
+      go true h = h
+      go false h = o .total e e h
+
+  -- where none behind it expires as early, an entry expires no later than those behind it
+  pub before-all : (e : E) (l : List E) → oneOf (λ d. kind .noLater d e) l ≡ false → each (λ d. kind .noLater e d) l ≡ true
+  before-all e l n = each-else (λ d. kind .noLater d e) (λ d. kind .noLater e d) l n (λ d h. o .total d e h)
+
+  -- what expires no later than each of a list, of which one expires no later than e, expires no later than e
+  pub through : (b e : E) (l : List E) → each (λ d. kind .noLater b d) l ≡ true → oneOf (λ d. kind .noLater d e) l ≡ true → kind .noLater b e ≡ true
+  through b e l a n = one-each (λ d. kind .noLater d e) (λ d. kind .noLater b d) l n a (λ d h k. o .along b d e k h)
+
+  -- the entry that is evicted expires no later than each
+  pub evicts : (l : List E) (z : E) → 0 < length l → each (λ d. kind .noLater (getD l (evictPlace kind l) z) d) l ≡ true
+  unfolding evictPlace
+  evicts [] z h = absurd (omega arith)
+  evicts (e ∷ l) z h = go (oneOf (λ d. kind .noLater d e) l) refl (evicts l z)
+    where
+      go : (b : Bool) → oneOf (λ d. kind .noLater d e) l ≡ b
+          → (0 < length l → each (λ d. kind .noLater (getD l (evictPlace kind l) z) d) l ≡ true)
+          → each (λ d. kind .noLater (getD (e ∷ l) (cond b (suc (evictPlace kind l)) 0) z) d) (e ∷ l) ≡ true
+      go true t i =
+          let q = i (one-some (λ d. kind .noLater d e) l t) in
+          each-cons (λ d. kind .noLater (getD l (evictPlace kind l) z) d) e l (through (getD l (evictPlace kind l) z) e l q t) q
+      go false t i = each-cons (λ d. kind .noLater e d) e l (itself e) (before-all e l t)
+
+  pub evict-lt : (l : List E) → 0 < length l → evictPlace kind l < length l
+  unfolding evictPlace
+  evict-lt [] h = absurd (omega arith)
+  evict-lt (e ∷ l) h =
+      cond-case (λ n. n < suc (length l)) (oneOf (λ d. kind .noLater d e) l) (λ t. omega (arith, evict-lt l (one-some (λ d. kind .noLater d e) l t))) (λ _. omega arith)
+
+  -- some expire no later than e exactly if the one that would be evicted does
+  pub one-evicts : (l : List E) (z e : E) → 0 < length l → oneOf (λ d. kind .noLater d e) l ≡ kind .noLater (getD l (evictPlace kind l) z) e
+  one-evicts l z e h = go (kind .noLater (getD l (evictPlace kind l) z) e) refl (oneOf (λ d. kind .noLater d e) l) refl
+    where
+      go : (s : Bool) → kind .noLater (getD l (evictPlace kind l) z) e ≡ s → (t : Bool) → oneOf (λ d. kind .noLater d e) l ≡ t → t ≡ s
+      go true p t q = sym q ∙ one-at (λ d. kind .noLater d e) l (evictPlace kind l) z (evict-lt l h) p
+      go false p true q = sym (through (getD l (evictPlace kind l) z) e l (evicts l z h) q) ∙ p
+      go false p false q = refl

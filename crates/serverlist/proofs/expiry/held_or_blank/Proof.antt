@@ -1,0 +1,14 @@
+use borrow.Author.Tests.{lt-ltb, le-ltb}
+use Rattle.serverlist.proofs.expiry.held_or_blank.Statement.{statement}
+use Rattle.serverlist.proofs.expiry.held_or_blank.Tie as tie
+use Rattle.serverlist.proofs.expiry.held_or_blank.Reads as reads
+use Rattle.serverlist.proofs.expiry.held_or_blank.Lts as lts
+
+returns : tie.Need-returns
+returns c = simp (lt-ltb _ _ (c .if1 .taken))
+
+returns-2 : tie.Need-returns-2
+returns-2 c = simp (le-ltb _ _ (c .if1 .left))
+
+pub held-or-blank-spec : {M : Type 1} → statement M
+held-or-blank-spec = tie.close (tie.spec returns returns-2)

@@ -1,0 +1,110 @@
+use Prim.Native.Nat.{_≤_, _<_, _+_, _-_, _*_}
+use mathlib.Core.Path.{_≡_, sym, _∙_}
+use native.Mathlib.Omega.{arith}
+use borrow.Author.Needs.{needs}
+use borrow.Author.Tests.{not-true, not-false}
+use lib.ListN.{length, drop, length-map}
+use lib.Seq.{length-take-le}
+use Rattle.serverlist.specs.Servers.{held}
+use Rattle.serverlist.proofs.PackLaws.{about-held, expiry-held}
+use Rattle.serverlist.proofs.FormLaws.{orderly, compared, compared-none, compared-end, twice, other, no-expiry, once}
+use Rattle.serverlist.proofs.form.is_orderly.Statement.{statement}
+use Rattle.serverlist.proofs.form.is_orderly.Tie as tie
+
+abbrev Inv-loop : tie.InvT-loop
+Inv-loop l n i₀ k₀ i k = (length (l .entries) ≡ 8) × (length (held l) ≡ n) × (i ≤ n) × (i < k) × (k ≤ n + 1) × (orderly (held l) ≡ compared (k - (i + 1)) (drop i (held l)))
+
+abbrev μ-loop : tie.MeasureT-loop
+μ-loop l n i₀ k₀ i k = (n - i) * 16 + (n - k)
+
+loop-holds : tie.Need-loop-holds Inv-loop μ-loop
+loop-holds c =
+    let g = simp length-map at (c .good .0 .1 .1 .0 .1 .0 .1) in
+    (g, length-take-le (c .args .t1 .count) (c .args .t1 .entries) (omega arith), omega arith, omega arith, omega arith, compared-none (held (c .args .t1)))
+
+mul-e : tie.Need-mul-e Inv-loop μ-loop
+mul-e c = search needs
+
+element-copy-out-e : tie.Need-element-copy-out-e Inv-loop μ-loop
+element-copy-out-e c = search needs
+
+mul-d : tie.Need-mul-d Inv-loop μ-loop
+mul-d c = search needs
+
+element-copy-out-d : tie.Need-element-copy-out-d Inv-loop μ-loop
+element-copy-out-d c = search needs
+
+add-k : tie.Need-add-k Inv-loop μ-loop
+add-k c = search needs
+
+is-about-requires : tie.Need-is-about-requires Inv-loop μ-loop
+is-about-requires c κs = search needs
+
+returns : tie.Need-returns Inv-loop μ-loop
+returns c =
+    let x = c .before .before .before .before .before .before .before .args .t1 in
+    let l = c .before .before .before .before .before .before .loop in
+    sym (l .inv .5 ∙ twice (held x) (l .i) (l .k) (omega arith) (omega arith) (omega arith) (about-held x (l .i) (l .k) _ _ _ (sym (c .before .is-about .ensures) ∙ c .if2 .taken) (omega arith) (omega arith) (omega arith)))
+
+loop-less : tie.Need-loop-less Inv-loop μ-loop
+loop-less c = omega arith
+
+loop-again : tie.Need-loop-again Inv-loop μ-loop
+loop-again c =
+    let x = c .before .before .before .before .before .before .before .args .t1 in
+    let l = c .before .before .before .before .before .before .loop in
+    (l .inv .0, l .inv .1, l .inv .2, omega arith, omega arith, l .inv .5 ∙ other (held x) (l .i) (l .k) (omega arith) (omega arith) (omega arith) (about-held x (l .i) (l .k) _ _ _ (sym (c .before .is-about .ensures) ∙ c .if2 .left) (omega arith) (omega arith) (omega arith)))
+
+add-i : tie.Need-add-i Inv-loop μ-loop
+add-i c = search needs
+
+add-k-2 : tie.Need-add-k-2 Inv-loop μ-loop
+add-k-2 c = search needs
+
+is-expiry-requires : tie.Need-is-expiry-requires Inv-loop μ-loop
+is-expiry-requires c κs = search needs
+
+returns-2 : tie.Need-returns-2 Inv-loop μ-loop
+returns-2 c =
+    let x = c .before .before .before .before .before .before .args .t1 in
+    let l = c .before .before .before .before .before .loop in
+    sym (l .inv .5 ∙ no-expiry (held x) (l .i) (l .k) (omega arith) (omega arith) (omega arith) (expiry-held x (l .i) _ _ (sym (c .before .is-expiry .ensures) ∙ not-true _ (c .if3 .taken)) (omega arith) (omega arith)))
+
+loop-less-2 : tie.Need-loop-less-2 Inv-loop μ-loop
+loop-less-2 c = omega arith
+
+loop-again-2 : tie.Need-loop-again-2 Inv-loop μ-loop
+loop-again-2 c =
+    let x = c .before .before .before .before .before .before .args .t1 in
+    let l = c .before .before .before .before .before .loop in
+    (l .inv .0, l .inv .1, omega arith, omega arith, omega arith, l .inv .5 ∙ once (held x) (l .i) (l .k) (omega arith) (omega arith) (omega arith) (expiry-held x (l .i) _ _ (sym (c .before .is-expiry .ensures) ∙ not-false _ (c .if3 .left)) (omega arith) (omega arith)))
+
+returns-3 : tie.Need-returns-3 Inv-loop μ-loop
+returns-3 c =
+    let x = c .before .before .args .t1 in
+    let l = c .before .loop in
+    sym (l .inv .5 ∙ compared-end (held x) (l .i) (l .k - (l .i + 1)) (omega arith))
+
+pub is-orderly-spec : {M : Type 1} → statement M
+is-orderly-spec =
+    tie.close
+    (tie.spec
+    Inv-loop
+    μ-loop
+    loop-holds
+    mul-e
+    element-copy-out-e
+    mul-d
+    element-copy-out-d
+    add-k
+    is-about-requires
+    returns
+    loop-less
+    loop-again
+    add-i
+    add-k-2
+    is-expiry-requires
+    returns-2
+    loop-less-2
+    loop-again-2
+    returns-3)

@@ -1,0 +1,4 @@
+-- The definitions that the contracts cite. Entries and Servers are those of the promises, and Places is how functions speak of the list's places.
+pub mod Entries
+pub mod Servers
+pub mod Places

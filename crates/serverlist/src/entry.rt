@@ -1,0 +1,23 @@
+// One entry of the list: what it is about, and whether it has expired.
+use crate::Address6;
+use crate::Server;
+use clock::Moment;
+ghost use mathlib.Core.Path.{_≡_};
+ghost use Rattle.clock.specs.Clock.{isPast};
+ghost use Rattle.serverlist.specs.Entries.{isAbout};
+ghost use Rattle.serverlist.specs.Servers.{servers, expires};
+
+// Whether an entry is about an address.
+pub fn is_about(e: Server, a: Address6) -> bool
+    ensures { λ r. ⌜ r ≡ isAbout servers a e ⌝ }
+{
+    let b = e.address;
+    octets::compare::same(&a.octets, &b.octets)
+}
+
+// Whether an entry has expired at a clock: at its expiry it has not.
+pub(crate) fn is_expired(e: Server, clock: Moment) -> bool
+    ensures { λ r. ⌜ r ≡ isPast (expires e) clock ⌝ }
+{
+    clock::is_past(e.expiry, clock)
+}

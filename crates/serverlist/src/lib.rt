@@ -1,0 +1,48 @@
+// The DNS server list of RFC 5006 by itself: the servers that routers name, in order of preference,
+// each until it expires; its form, its expiry, and which entry is evicted.
+pub mod entry;
+pub mod eviction;
+pub mod expiry;
+pub mod form;
+
+use clock::Moment;
+ghost use mathlib.Core.Path.{_≡_};
+ghost use mathlib.Core.List.{[]};
+ghost use Rattle.serverlist.specs.Servers.{packed};
+
+// An IPv6 address.
+#[repr(C)]
+pub struct Address6 {
+    pub octets: [u8; 16],
+}
+
+// A DNS server and when it expires: a moment, or clock::NEVER.
+#[repr(C)]
+pub struct Server {
+    pub address: Address6,
+    pub expiry: Moment,
+}
+
+// The servers, the preferred one first, and the last accepted clock. Places past the count are not
+// looked at, and are zero in a list that a call made.
+#[repr(C)]
+pub struct ServerList {
+    pub entries: [Server; 8],
+    pub count: usize,
+    pub clock: Moment,
+}
+
+// A list without servers.
+pub fn empty(clock: Moment) -> ServerList
+    ensures { λ r. ⌜ r ≡ packed clock [] ⌝ }
+{
+    let blank = Server {
+        address: Address6 { octets: [0; 16] },
+        expiry: Moment(0),
+    };
+    ServerList {
+        entries: [blank; 8],
+        count: 0,
+        clock: clock,
+    }
+}
