@@ -7,56 +7,14 @@ use native.Mathlib.Omega.{arith}
 use borrow.Author.Tests.{eq-eqb, ne-eqb}
 use Rattle.zone.specs.Zone.{Answer, success, YXDOMAIN, NXDOMAIN, NXRRSET, noRoom}
 use Rattle.zone.specs.Promise.{numberOf}
+use Rattle.zone.proofs.AnswerLaws.{is-success, is-yxdomain, is-nxrrset, is-no-room, is-nxdomain, number-success}
 use Rattle.job.specs.declared.job.Job.{Job}
 use Rattle.job.specs.Jobs.{Stage, beforeA, beforeSecond, ended, gaveUp, notOurs, gone, kept, after, passed, afterFirst, afterSecond}
 use Rattle.job.specs.Meaning.{stageNumber, stageCount, atStage}
 use Rattle.job.specs.Inner.{placed, Leads}
 
--- ---- a number tells its answer
-
-is-success : (a : Answer) → 0 ≡ numberOf a → a ≡ success
-unfolding numberOf
-is-success success e = refl
-is-success YXDOMAIN e = absurd (omega arith)
-is-success NXDOMAIN e = absurd (omega arith)
-is-success NXRRSET e = absurd (omega arith)
-is-success noRoom e = absurd (omega arith)
-
-is-yxdomain : (a : Answer) → 6 ≡ numberOf a → a ≡ YXDOMAIN
-unfolding numberOf
-is-yxdomain success e = absurd (omega arith)
-is-yxdomain YXDOMAIN e = refl
-is-yxdomain NXDOMAIN e = absurd (omega arith)
-is-yxdomain NXRRSET e = absurd (omega arith)
-is-yxdomain noRoom e = absurd (omega arith)
-
-is-nxrrset : (a : Answer) → 8 ≡ numberOf a → a ≡ NXRRSET
-unfolding numberOf
-is-nxrrset success e = absurd (omega arith)
-is-nxrrset YXDOMAIN e = absurd (omega arith)
-is-nxrrset NXDOMAIN e = absurd (omega arith)
-is-nxrrset NXRRSET e = refl
-is-nxrrset noRoom e = absurd (omega arith)
-
-is-no-room : (a : Answer) → 256 ≡ numberOf a → a ≡ noRoom
-unfolding numberOf
-is-no-room success e = absurd (omega arith)
-is-no-room YXDOMAIN e = absurd (omega arith)
-is-no-room NXDOMAIN e = absurd (omega arith)
-is-no-room NXRRSET e = absurd (omega arith)
-is-no-room noRoom e = refl
-
-is-nxdomain : (a : Answer) (x : ℕ) → (x ≡ 0 → ⊥) → (x ≡ 6 → ⊥) → (x ≡ 8 → ⊥) → (x ≡ 256 → ⊥) → x ≡ numberOf a → a ≡ NXDOMAIN
-unfolding numberOf
-is-nxdomain success x a b c d e = absurd (a e)
-is-nxdomain YXDOMAIN x a b c d e = absurd (b e)
-is-nxdomain NXDOMAIN x a b c d e = refl
-is-nxdomain NXRRSET x a b c d e = absurd (c e)
-is-nxdomain noRoom x a b c d e = absurd (d e)
-
 failed : (a : Answer) (x : ℕ) → (x ≡ 0 → ⊥) → x ≡ numberOf a → passed a ≡ false
-unfolding numberOf
-failed success x n e = absurd (n e)
+failed success x n e = absurd (n (e ∙ number-success))
 failed YXDOMAIN x n e = refl
 failed NXDOMAIN x n e = refl
 failed NXRRSET x n e = refl

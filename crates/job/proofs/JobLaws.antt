@@ -12,9 +12,10 @@ use Rattle.places.specs.declared.name.Name.{Name}
 use Rattle.places.specs.declared.entry.Dhcid.{Dhcid}
 use Rattle.places.specs.declared.entry.Address.{Address}
 use Rattle.zone.specs.Zone as abstract
-use Rattle.zone.specs.Zone.{Answer, success, YXDOMAIN, NXDOMAIN, NXRRSET, noRoom, keepOthers, requestA, requestB, removeAddress, removeName}
+use Rattle.zone.specs.Zone.{Answer, success, YXDOMAIN, NXDOMAIN, NXRRSET, noRoom, keepOthers, Policy, requestA, requestB, removeAddress, removeName}
 use Rattle.places.specs.Meaning.{nameOf, isFull, formed}
 use Rattle.zone.specs.Meaning.{listed, policyOf, updateOf, zoneOf}
+use Rattle.zone.proofs.AnswerLaws.{policy-zero}
 use Rattle.job.specs.declared.job.Job.{Job}
 use Rattle.job.specs.declared.fresh.NewJob.{NewJob}
 use Rattle.job.specs.declared.step.Stepped.{Stepped}
@@ -220,8 +221,8 @@ module _ (n : Name) (d : Dhcid) (family : ℕ) (a : Address) where
     arguments = record { kind = remove; update = updateOf n d family a; policy = keepOthers };
     stage = beforeFirst;
   }
-  unfolding jobOf argumentsOf freshRemove stageOf isAdd policyOf
-  remove-is = refl
+  unfolding jobOf argumentsOf freshRemove stageOf isAdd
+  remove-is = ap (λ (p : Policy). record { arguments = record { kind = remove; update = updateOf n d family a; policy = p }; stage = beforeFirst }) policy-zero
 
   pub add-listed : (policy : ℕ) → newRefusal (nameOf n) family policy ≡ 0 → numbersListed (freshAdd n d family a policy) ≡ true
   unfolding numbersListed freshAdd isAdd canHave stageListed stageOf possible among

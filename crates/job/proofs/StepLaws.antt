@@ -13,6 +13,8 @@ use Rattle.zone.specs.Zone.{Answer, Outcome, requestA, requestB, removeAddress,
 use Rattle.places.specs.Meaning.{nameOf, isFull, formed}
 use Rattle.zone.specs.Meaning.{listed, policyOf, updateOf, zoneOf}
 use Rattle.zone.specs.Promise.{refusalOf, numberOf, Promised}
+use Rattle.zone.proofs.AnswerLaws.{listed-zero}
+use Rattle.zone.proofs.PromiseLaws.{refusal-listed, says-17, not-17}
 use Rattle.job.specs.declared.job.Job.{Job}
 use Rattle.job.specs.declared.step.Stepped.{Stepped}
 use Rattle.job.specs.Jobs.{Stage, ended, End, done, conflict, noRoom, gaveUp, notOurs, gone, kept, State, goesOn, after, afterFirst, afterSecond, step}
@@ -22,11 +24,6 @@ use Rattle.job.specs.Inner.{Leads, Carried, Idle}
 use Rattle.job.proofs.StageLaws.{each-among, can-a, can-b, can-nothing, can-low, can-remove}
 
 -- ---- the numbers of a job
-
--- policy 0 is listed beside every family that is
-listed-zero : (f p : ℕ) → listed f p ≡ true → listed f 0 ≡ true
-unfolding listed
-listed-zero f p h = and-true (cond (eqb f 4) true (eqb f 6)) ∙ and-left (cond (eqb f 4) true (eqb f 6)) (leb p 2) h
 
 module _ (j : Job) (h : numbersListed j ≡ true) where
   pub numbers-zero : listed (j .family) 0 ≡ true
@@ -76,8 +73,8 @@ module _ (z : Zone) (j : Job) where
   -- ---- one refusal for the request and for the step
 
   refusal-same : (p : ℕ) → numbersListed j ≡ true → listed (j .family) p ≡ true → refusalOf z (nameOf (j .name)) (j .family) p ≡ stepRefusal z j
-  unfolding refusalOf stepRefusal
-  refusal-same p h l = rw (h, l) refl
+  unfolding stepRefusal
+  refusal-same p h l = refusal-listed z (nameOf (j .name)) (j .family) p l ∙ sym (rw h refl)
 
   -- ---- a stage that sends a request
 
@@ -100,24 +97,11 @@ module _ (z : Zone) (j : Job) where
 
   -- ---- numbers that are not listed
 
-  module _ (p : ℕ) where
-    pub form-fails : refusalOf z (nameOf (j .name)) (j .family) p ≡ 17 → formed z ≡ false
-    unfolding refusalOf
-    form-fails e = go (formed z) (listed (j .family) p) (isFull (nameOf (j .name))) e
-      where
-        go : (a b c : Bool) → _≡_ {A = ℕ} (cond a (cond b (cond c 0 11) 18) 17) 17 → a ≡ false
-        go true true true q = absurd (omega arith)
-        go true true false q = absurd (omega arith)
-        go true false c q = absurd (omega arith)
-        go false b c q = refl
+  pub form-fails : (p : ℕ) → refusalOf z (nameOf (j .name)) (j .family) p ≡ 17 → formed z ≡ false
+  form-fails p e = says-17 z (nameOf (j .name)) (j .family) p e
 
-    pub form-holds : (refusalOf z (nameOf (j .name)) (j .family) p ≡ 17 → ⊥) → formed z ≡ true
-    unfolding refusalOf
-    form-holds n = go (formed z) n
-      where
-        go : (a : Bool) → (_≡_ {A = ℕ} (cond a (cond (listed (j .family) p) (cond (isFull (nameOf (j .name))) 0 11) 18) 17) 17 → ⊥) → a ≡ true
-        go true q = refl
-        go false q = absurd (q refl)
+  pub form-holds : (p : ℕ) → (refusalOf z (nameOf (j .name)) (j .family) p ≡ 17 → ⊥) → formed z ≡ true
+  form-holds p n = not-17 z (nameOf (j .name)) (j .family) p n
 
   pub refused-form : formed z ≡ false → StepPromise z j (record { refusal = 17; zone = z; job = j })
   refused-form f =

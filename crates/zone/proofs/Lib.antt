@@ -4,5 +4,6 @@ pub mod ZoneLaws
 pub mod BareLaws
 pub mod PlaceLaws
 pub mod DecideLaws
+pub mod AnswerLaws
 pub mod PromiseLaws
 pub mod RequestLaws

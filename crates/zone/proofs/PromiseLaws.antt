@@ -60,6 +60,14 @@ module _ (z : Zone) (n : Octets) (family policy : ℕ) where
   unfolding refusalOf
   refusal-none f l m = rw (f, l, m)
 
+  -- the numbers being listed, the form and the name are left
+  pub refusal-listed : listed family policy ≡ true → refusalOf z n family policy ≡ cond (formed z) (cond (isFull n) 0 11) 17
+  unfolding refusalOf
+  refusal-listed l = rw l
+
+  pub not-17 : (refusalOf z n family policy ≡ 17 → ⊥) → formed z ≡ true
+  not-17 e = bool-case (formed z) (λ f. f) (λ f. absurd (e (refusal-form f)))
+
   -- each number exactly when
   pub record Passed : Type 0 where
     pub form : formed z ≡ true
