@@ -155,7 +155,7 @@ module _ (z : Zone) (a b : Arguments) where
 abbrev z₀ : Zone
 z₀ = heldByX oneAddress
 
-p12-ends : (r₄ z₀ xRemoves yAdds .job .stage ≡ ended gone) × (r₃ z₀ xRemoves yAdds .job .stage ≡ ended (conflict 2))
+pub p12-ends : (r₄ z₀ xRemoves yAdds .job .stage ≡ ended gone) × (r₃ z₀ xRemoves yAdds .job .stage ≡ ended (conflict 2))
 unfolding heldByX xHost oneAddress xRemoves yAdds pipe step fresh requestA requestB removeAddress removeName after afterFirst afterSecond heldBy sameOctets key address with mark put empty member
 p12-ends = (refl, refl)
 
@@ -167,7 +167,7 @@ pub p12 : Story byRule
 p12 = between z₀ xRemoves yAdds form-one gone (conflict 2) (p12-ends .0) (p12-ends .1)
 
 -- Demand 3 speaks of it.
-p12-held : HeldHaveAddress z₀
+pub p12-held : HeldHaveAddress z₀
 unfolding heldByX
 p12-held k h d e o = go (sameOctets pipe k) e
   where

@@ -10,4 +10,5 @@ pub mod InTime
 pub mod Running
 -- Lists of steps: P12, and why removes can't be asked to answer alike.
 pub mod Cases
+pub mod RunningCases
 pub mod RemovesDiffer
