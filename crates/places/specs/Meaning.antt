@@ -39,10 +39,11 @@ keys (e ∷ es) = cond (used e) (keyOf e ∷ keys es) (keys es)
 
 -- ---- the form: what breaks it is refusal 17
 
--- A place in order: free, or a static (1) or held (2) name that is full, with at most four addresses a family, no two equal.
+-- A used place in order: a static (1) or held (2) name that is full, with at most four addresses a family, no two equal.
 unfoldable pub inOrder : Entry → Bool
 inOrder e = leb (e .kind) 2 && (isFull (nameOf (e .name)) && (sound (e .v4 .count) (list4 (e .v4)) && sound (e .v6 .count) (list6 (e .v6))))
 
+-- A free place is in order whatever it holds.
 unfoldable pub allInOrder : List Entry → Bool
 allInOrder [] = true
 allInOrder (e ∷ es) = cond (used e) (inOrder e) true && allInOrder es

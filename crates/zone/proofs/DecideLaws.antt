@@ -5,7 +5,7 @@ use mathlib.Core.Option.{Option, none, some}
 use Prim.Native.Nat.{ℕ, _≤_, _<_}
 use native.Mathlib.Omega.{arith}
 use lib.Dec.{eqb}
-use borrow.Author.Tests.{eq-eqb, ne-eqb}
+use borrow.Author.Tests.{ne-eqb}
 use lib.ListN.{length, getD, set}
 use Rattle.dname.specs.Name.{key}
 use Rattle.hosts.specs.Count.{Octets, distinct}
@@ -45,11 +45,7 @@ module _ (z : Zone) (right : Outcome) (w : Change) where
     writes = λ h. (e .0, e .1 ∙ ap (λ (o : Outcome). o .zone) (sym r));
   }
 
--- ---- nothing sent, and the requests by number
-
-pub sends-nothing : (s : Survey) (n : Octets) (policy : ℕ) (u : Update) (kind : ℕ) (w : Change) → kind ≡ 0 → w .answer ≡ 0 → w .place ≡ 64 → Decides (requestOf kind policy u) n s w
-unfolding numberOf
-sends-nothing s n policy u kind w k a p = record { decides = λ z g v. stay z _ w success (unfold requestOf in rw (eq-eqb kind 0 k)) a p }
+-- ---- the requests by number
 
 module _ (policy : ℕ) (u : Update) (kind : ℕ) where
   pub is-A : kind ≡ 1 → requestA u ≡ requestOf kind policy u
@@ -61,8 +57,8 @@ module _ (policy : ℕ) (u : Update) (kind : ℕ) where
   pub is-first : kind ≡ 3 → removeAddress u ≡ requestOf kind policy u
   is-first k = fun-ext (λ z. unfold requestOf in rw k)
 
-  pub is-second : ¬ (kind ≡ 0) → ¬ (kind ≡ 1) → ¬ (kind ≡ 2) → ¬ (kind ≡ 3) → removeName u ≡ requestOf kind policy u
-  is-second a b c d = fun-ext (λ z. unfold requestOf in sym (rw (ne-eqb kind 0 a, ne-eqb kind 1 b, ne-eqb kind 2 c, ne-eqb kind 3 d)))
+  pub is-second : ¬ (kind ≡ 1) → ¬ (kind ≡ 2) → ¬ (kind ≡ 3) → removeName u ≡ requestOf kind policy u
+  is-second a b c = fun-ext (λ z. unfold requestOf in sym (rw (ne-eqb kind 1 a, ne-eqb kind 2 b, ne-eqb kind 3 c)))
 
 -- ---- the four requests
 

@@ -17,7 +17,7 @@ use Rattle.zone.specs.declared.decide.Change.{Change}
 use Rattle.zone.specs.declared.request.Answered.{Answered}
 use Rattle.zone.specs.declared.request.Effect.{Effect}
 use Rattle.zone.specs.Zone as rules
-use Rattle.zone.specs.Zone.{Host, Update, address, fits, Outcome, says, success, requestA, requestB, removeAddress, removeName}
+use Rattle.zone.specs.Zone.{Host, Update, address, fits, Outcome, requestA, requestB, removeAddress, removeName}
 use Rattle.zone.specs.Meaning.{hostOf, zoneOf, familyOf, policyOf, addressOf}
 use Rattle.zone.specs.Promise.{numberOf, refusalOf}
 
@@ -25,11 +25,11 @@ use Rattle.zone.specs.Promise.{numberOf, refusalOf}
 pub record Refuses (n : Octets) (family policy : ℕ) (s : Survey) (r : ℕ) : Type 0 where
   pub refuses : (z : Zone) → Surveyed z n s → r ≡ refusalOf z n family policy
 
--- ---- the requests by number: nothing for 0, request A for 1, request B for 2, the first remove request for 3, the second for any other
+-- ---- the requests by number: A for 1, B for 2, the first remove request for 3, the second for any other
 
 unfoldable pub requestOf : ℕ → ℕ → Update → rules.Zone → Outcome
 requestOf kind policy u z =
-    cond (eqb kind 0) (says success z) (cond (eqb kind 1) (requestA u z) (cond (eqb kind 2) (requestB (policyOf policy) u z) (cond (eqb kind 3) (removeAddress u z) (removeName u z))))
+    cond (eqb kind 1) (requestA u z) (cond (eqb kind 2) (requestB (policyOf policy) u z) (cond (eqb kind 3) (removeAddress u z) (removeName u z)))
 
 -- ---- what a request comes to: an answer, and one place written, or none where there is no such place
 

@@ -32,18 +32,6 @@ pub(crate) struct Change {
     pub entry: Entry,
 }
 
-// Nothing is sent.
-pub(crate) fn nothing(s: Survey) -> Change
-    ensures { λ r. ⌜ (r .answer ≡ 0) × (r .place ≡ 64) ⌝ }
-{
-    let e = s.entry;
-    Change {
-        answer: SUCCESS,
-        place: 64,
-        entry: e,
-    }
-}
-
 // Request A: adds an absent name.
 pub(crate) fn add_name(s: Survey, n: Name, d: Dhcid, family: u8, a: Address) -> Change
     requires { ⌜ isFull (nameOf n) ≡ true ⌝ }

@@ -19,8 +19,8 @@ ghost use Rattle.zone.specs.Meaning.{listed, policyOf, updateOf, zoneOf}
 ghost use Rattle.zone.specs.Promise.{refusalOf, Promised};
 ghost use Rattle.zone.specs.Inner.{requestOf, written as writtenAt, settled, Decides, Refuses};
 
-// What is sent. kind: 0 nothing, 1 request A, 2 request B, 3 the first remove request, any other the
-// second. policy: of request B; 0 where there is none.
+// What is sent. kind: 1 request A, 2 request B, 3 the first remove request, any other the second.
+// policy: of request B; 0 where there is none.
 pub(crate) struct Request {
     pub kind: u8,
     pub family: u8,
@@ -85,9 +85,6 @@ fn change_of(s: Survey, q: Request) -> Change
     requires { ⌜ (isFull (nameOf (q .name)) ≡ true) × (s .found < 64 → inOrder (s .entry) ≡ true) ⌝ }
     ensures { λ r. ⌜ Decides (requestOf (q .kind) (q .policy) (updateOf (q .name) (q .dhcid) (q .family) (q .address))) (nameOf (q .name)) s r ⌝ }
 {
-    if q.kind == 0 {
-        return decide::nothing(s);
-    }
     if q.kind == 1 {
         return decide::add_name(s, q.name, q.dhcid, q.family, q.address);
     }
