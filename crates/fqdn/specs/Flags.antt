@@ -1,5 +1,6 @@
 -- The flag decision. Document 01, "Name option".
-use Prim.Native.Nat.{ℕ, zero, suc, _+_, _*_, _%_}
+use Prim.Native.Nat.{ℕ, zero, suc, _+_, _*_, _%_, _≤_}
+use mathlib.Core.Path.{_≡_}
 use mathlib.Core.List.{List, [], _∷_}
 use lib.ListN.{getD}
 
@@ -26,3 +27,10 @@ flagTable =
 -- Document 01, "Name option": the place in the table.
 unfoldable pub flagAnswer : ℕ → ℕ → ℕ → ℕ
 flagAnswer flags s n = getD flagTable (flags % 8 + 8 * honoured s + 16 * honoured n) 0
+
+-- ---- for the contracts of inner functions; no public promise cites these
+
+-- The number that says whether a bit may be honoured, as a place in the table uses it: 0 or 1.
+pub record Honoured (number r : ℕ) : Type 0 where
+  pub is : r ≡ honoured number
+  pub small : r ≤ 1

@@ -1,18 +1,56 @@
 // The flag decision.
 ghost use mathlib.Core.Path.{_≡_};
-ghost use Rattle.fqdn.specs.Flags.{flagAnswer};
+ghost use Rattle.fqdn.specs.Flags.{Honoured, flagAnswer};
 
-// The bits of a flags octet that a client may set: S asks the server to do the update of the
-// forward names, N to do no update. A client sets at most one of them.
-const S: u8 = 1;
+// Refusal 10 in the table, where no flags octet is answered by that number, and as a result has it:
+// 10 times 65536.
+const R: u8 = 10;
 
-const N: u8 = 4;
+const REFUSED: u32 = 655360;
 
-// The bit by which the server says that it overrode S.
-const O: u32 = 2;
+// The answers, at the place that the lowest three bits of the flags octet and what may be honoured
+// give. They are octets, since the table is copied whenever it is read at a place that varies.
+const ANSWERS: [u8; 32] = [
+    0, // neither honoured: no bit
+    2, // neither honoured: S
+    R, // neither honoured: O
+    R, // neither honoured: O and S
+    0, // neither honoured: N
+    R, // neither honoured: N and S
+    R, // neither honoured: N and O
+    R, // neither honoured: N, O and S
+    0, // S honoured: no bit
+    1, // S honoured: S
+    R, // S honoured: O
+    R, // S honoured: O and S
+    0, // S honoured: N
+    R, // S honoured: N and S
+    R, // S honoured: N and O
+    R, // S honoured: N, O and S
+    0, // N honoured: no bit
+    2, // N honoured: S
+    R, // N honoured: O
+    R, // N honoured: O and S
+    4, // N honoured: N
+    R, // N honoured: N and S
+    R, // N honoured: N and O
+    R, // N honoured: N, O and S
+    0, // both honoured: no bit
+    1, // both honoured: S
+    R, // both honoured: O
+    R, // both honoured: O and S
+    4, // both honoured: N
+    R, // both honoured: N and S
+    R, // both honoured: N and O
+    R, // both honoured: N, O and S
+];
 
-// Refusal 10, as a result has it: 10 times 65536.
-const R: u32 = 655360;
+// 0 for no, 1 for any other number.
+fn one_if(number: u8) -> usize
+    ensures { λ r. ⌜ Honoured number r ⌝ }
+{
+    if number == 0 { 0 } else { 1 }
+}
 
 // The flags octet of the server's answer to a client's flags octet, or refusal 10. A number other
 // than 0 says that S, or N, may be honoured.
@@ -20,21 +58,10 @@ const R: u32 = 655360;
 pub extern "C" fn jespurla_flag_decision(flags: u8, honour_s: u8, honour_n: u8) -> u32
     ensures { λ r. ⌜ r ≡ flagAnswer flags «honour_s» «honour_n» ⌝ }
 {
-    let asked = flags % 8;
-    if asked == 0 {
-        return 0;
+    let place = (flags % 8) as usize + 8 * one_if(honour_s) + 16 * one_if(honour_n);
+    let answer = ANSWERS[place];
+    if answer == R {
+        return REFUSED;
     }
-    if asked == S {
-        if honour_s == 0 {
-            return O;
-        }
-        return S as u32;
-    }
-    if asked == N {
-        if honour_n == 0 {
-            return 0;
-        }
-        return N as u32;
-    }
-    R
+    answer as u32
 }

@@ -1,35 +1,55 @@
-use Rattle.fqdn.proofs.FlagLaws.{none-asked, s-overridden, s-honoured, n-dropped, n-honoured, others-refused}
 use borrow.Author.Needs.{needs}
+use Prim.Native.Nat.{_+_, _*_, _%_}
+use native.Mathlib.Omega.{arith}
+use Rattle.fqdn.proofs.FlagLaws.{small, refused, answered}
 use Rattle.fqdn.proofs.flags.jespurla_flag_decision.Statement.{statement}
 use Rattle.fqdn.proofs.flags.jespurla_flag_decision.Tie as tie
-use Rattle.fqdn.proofs.flags.jespurla_flag_decision.Reads as reads
-use Rattle.fqdn.proofs.flags.jespurla_flag_decision.Lts as lts
+
+cast-place : tie.Need-cast-place
+cast-place c = search needs
+
+one-if-requires : tie.Need-one-if-requires
+one-if-requires c κs = search needs
+
+mul-place : tie.Need-mul-place
+mul-place c = search needs
+
+add-place : tie.Need-add-place
+add-place c = search needs
+
+one-if-requires-2 : tie.Need-one-if-requires-2
+one-if-requires-2 c κs = search needs
+
+mul-place-2 : tie.Need-mul-place-2
+mul-place-2 c = search needs
+
+add-place-2 : tie.Need-add-place-2
+add-place-2 c = search needs
+
+array-read-answer : tie.Need-array-read-answer
+array-read-answer c = search needs
 
 returns : tie.Need-returns
-returns c = none-asked _ _ _ (c .if1 .taken)
-
-returns-2 : tie.Need-returns-2
-returns-2 c = s-overridden _ _ _ (c .before .if2 .taken) (c .if3 .taken)
+returns c = refused _ _ _ _ _ (c .before .before .one-if .ensures .is) (c .before .one-if2 .ensures .is) (c .if1 .taken)
 
 cast-result : tie.Need-cast-result
-cast-result c = search needs
+cast-result c = omega (arith, small (c .before .before .before .args .flags % 8 + 8 * c .before .before .one-if .result + 16 * c .before .one-if2 .result))
 
-returns-3 : tie.Need-returns-3
-returns-3 c = s-honoured _ _ _ (c .before .if2 .taken) (c .if3 .left)
-
-returns-4 : tie.Need-returns-4
-returns-4 c = n-dropped _ _ _ (c .before .if4 .taken) (c .if5 .taken)
-
-cast-result-2 : tie.Need-cast-result-2
-cast-result-2 c = search needs
-
-returns-5 : tie.Need-returns-5
-returns-5 c = n-honoured _ _ _ (c .before .if4 .taken) (c .if5 .left)
-
-returns-6 : tie.Need-returns-6
-returns-6 c = others-refused _ _ _ (c .before .before .if1 .left) (c .before .if2 .left) (c .if4 .left)
+returns-2 : tie.Need-returns-2
+returns-2 c = answered _ _ _ _ _ (c .before .before .one-if .ensures .is) (c .before .one-if2 .ensures .is) (c .if1 .left)
 
 pub jespurla-flag-decision-spec : {M : Type 1} → statement M
 jespurla-flag-decision-spec =
     tie.close
-    (tie.spec returns returns-2 cast-result returns-3 returns-4 cast-result-2 returns-5 returns-6)
+    (tie.spec
+    cast-place
+    one-if-requires
+    mul-place
+    add-place
+    one-if-requires-2
+    mul-place-2
+    add-place-2
+    array-read-answer
+    returns
+    cast-result
+    returns-2)
