@@ -4,7 +4,7 @@
 use std::hint::black_box;
 
 use second::job::{self, Job, DONE, GONE};
-use second::zone::{as_set, Entry, Set, Zone};
+use second::zone::{as_set, Entry, Name, Set, Zone};
 
 use crate::common::jobs::fresh;
 use crate::common::product;
@@ -71,17 +71,41 @@ fn case(rows: &mut Table, title: &str, start: &Zone, request: &Request) {
     rows.compare(title, ours, second);
 }
 
-/// The new job call alone.
-fn new_job(rows: &mut Table, title: &str, request: &Request) {
-    let ours = || product::new_job(black_box(request));
-    let second = || fresh(black_box(request));
-    assert_eq!(ours().job, second().expect("a sound job").twin());
-    rows.compare(title, ours, second);
+/// The second program's new job calls behind the product's interface.
+#[allow(improper_ctypes_definitions)]
+#[inline(never)]
+extern "C" fn second_add(n: Name, d: [u8; 35], family: u8, a: [u8; 16], policy: u8) -> Option<Job> {
+    job::new_add(&n, &d, family, &a, policy).ok()
+}
+
+#[allow(improper_ctypes_definitions)]
+#[inline(never)]
+extern "C" fn second_remove(n: Name, d: [u8; 35], family: u8, a: [u8; 16]) -> Option<Job> {
+    job::new_remove(&n, &d, family, &a).ok()
+}
+
+/// The new job calls alone.
+fn new_jobs(rows: &mut Table) {
+    let name = short(0);
+    let given = name.twin();
+    let (dhcid, address) = (
+        jespurla::Dhcid { octets: OWNER },
+        jespurla::Address { octets: ADDRESS },
+    );
+    let ours = || jespurla::new_add(black_box(&given), &dhcid, 6, &address, 0);
+    let by_value = || second_add(*black_box(&name), OWNER, 6, ADDRESS, 0);
+    let lent = || job::new_add(black_box(&name), &OWNER, 6, &ADDRESS, 0);
+    assert_eq!(ours().job, by_value().expect("a sound job").twin());
+    rows.compare_lent("new add", ours, by_value, lent);
+    let ours = || jespurla::new_remove(black_box(&given), &dhcid, 6, &address);
+    let by_value = || second_remove(*black_box(&name), OWNER, 6, ADDRESS);
+    let lent = || job::new_remove(black_box(&name), &OWNER, 6, &ADDRESS);
+    assert_eq!(ours().job, by_value().expect("a sound job").twin());
+    rows.compare_lent("new remove", ours, by_value, lent);
 }
 
 pub fn run(rows: &mut Table) {
-    new_job(rows, "new add", &request(Kind::A, 0));
-    new_job(rows, "new remove", &request(Kind::RemoveFirst, 0));
+    new_jobs(rows);
     for count in [1, 4, 16, 64] {
         let title = format!("add job, name to come, zone of {count}");
         let add = request(Kind::A, count - 1);

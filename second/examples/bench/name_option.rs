@@ -40,11 +40,22 @@ fn option(rows: &mut Table, title: &str, name: &[u8], suffix: &[u8]) {
     assert_eq!(ours, theirs);
 }
 
+/// The second program's flag decision behind the product's interface: a call,
+/// and a refusal and a result in one number.
+#[inline(never)]
+extern "C" fn second_flags(flags: u8, honour_s: u8, honour_n: u8) -> u32 {
+    match flag_decision(flags, honour_s != 0, honour_n != 0) {
+        Ok(sent) => u32::from(sent),
+        Err(refusal) => u32::from(refusal) << 16,
+    }
+}
+
 pub fn run(rows: &mut Table) {
     assert_eq!(jespurla::flag_decision(249, 1, 0).ok(), Ok(1));
-    rows.compare(
+    rows.compare_lent(
         "flag decision",
         || jespurla::flag_decision(black_box(249), 1, 0),
+        || second_flags(black_box(249), 1, 0),
         || flag_decision(black_box(249), true, false),
     );
     let suffix = b"\x05stage\x00";

@@ -43,16 +43,27 @@ fn list(count: usize) -> ServerList {
     list
 }
 
+/// The second program's call behind the product's interface.
+#[allow(improper_ctypes_definitions)]
+#[inline(never)]
+extern "C" fn by_value(list: ServerList, now: u64, area: &[u8]) -> (u8, ServerList) {
+    match update(&list, now, area) {
+        Ok(next) => (0, next),
+        Err(refusal) => (refusal, list),
+    }
+}
+
 fn case(rows: &mut Table, title: &str, count: usize, area: Vec<u8>) {
     let list = list(count);
     let given = list.twin();
     let product = || jespurla::server_list(black_box(&given), Moment(NOW), black_box(&area));
-    let second = || update(black_box(&list), NOW, black_box(&area));
-    let expected = second().expect("a sound list and area");
+    let second = || by_value(*black_box(&list), NOW, black_box(&area));
+    let lent = || update(black_box(&list), NOW, black_box(&area));
+    let expected = lent().expect("a sound list and area");
     let got = product();
     assert_eq!((got.refusal, got.list.twin()), (0, expected));
     let title = format!("server list, {title}");
-    rows.compare(&title, product, second);
+    rows.compare_lent(&title, product, second, lent);
 }
 
 /// Options of 3 addresses each, up to the largest area that can be sound:

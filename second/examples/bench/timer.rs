@@ -1,4 +1,4 @@
-//! Two programs timed in turns.
+//! Programs timed in turns.
 
 use std::hint::black_box;
 use std::time::{Duration, Instant};
@@ -30,17 +30,31 @@ fn calls_in_a_round<T>(call: &mut impl FnMut() -> T) -> u32 {
     calls
 }
 
-/// The one in the middle by size.
+/// The one in the middle by size, 0 where there is none.
 fn median(mut numbers: Vec<f64>) -> f64 {
     let middle = numbers.len() / 2;
+    if numbers.is_empty() {
+        return 0.0;
+    }
     *numbers.select_nth_unstable_by(middle, f64::total_cmp).1
 }
 
-/// What was measured for one row.
+/// What was measured for one row: our call, the second program's behind the
+/// same interface, and, where that hands structs in by value, the second
+/// program's on references.
 struct Row {
     name: String,
     ours: Vec<f64>,
     second: Vec<f64>,
+    lent: Vec<f64>,
+}
+
+impl Row {
+    /// The median of the ratios of neighbouring rounds, which meet the same load.
+    fn ratio(&self, other: &[f64]) -> f64 {
+        let rounds = self.ours.iter().zip(other);
+        median(rounds.map(|(ours, other)| ours / other).collect())
+    }
 }
 
 /// The rows in the order in which they first came.
@@ -59,6 +73,7 @@ impl Table {
                 name: name.to_string(),
                 ours: Vec::new(),
                 second: Vec::new(),
+                lent: Vec::new(),
             });
         }
         &mut self.rows[at]
@@ -79,16 +94,38 @@ impl Table {
         }
     }
 
-    /// Prints a line for each row: the median of each program, and the median
-    /// of the ratios of neighbouring rounds, which meet the same load.
+    /// Times all three in turns.
+    pub fn compare_lent<A, B, C>(
+        &mut self,
+        name: &str,
+        mut ours: impl FnMut() -> A,
+        mut second: impl FnMut() -> B,
+        mut lent: impl FnMut() -> C,
+    ) {
+        let calls = calls_in_a_round(&mut ours);
+        let row = self.row(name);
+        for _ in 0..ROUNDS {
+            row.ours.push(round(&mut ours, calls));
+            row.second.push(round(&mut second, calls));
+            row.lent.push(round(&mut lent, calls));
+        }
+    }
+
+    /// Prints a line for each row, with the medians.
     pub fn print(self) {
-        let (ours, second, ratio) = ("ours ns", "second ns", "ratio");
-        println!("{:<52}{ours:>10}{second:>11}{ratio:>7}", "call");
+        println!(
+            "{:<50}{:>9}{:>9}{:>7}{:>9}{:>7}",
+            "call", "ours ns", "second", "ratio", "lent", "ratio"
+        );
         for row in self.rows {
-            let ratios = row.ours.iter().zip(&row.second);
-            let ratio = median(ratios.map(|(ours, second)| ours / second).collect());
+            let (ratio, lent_ratio) = (row.ratio(&row.second), row.ratio(&row.lent));
             let (ours, second) = (median(row.ours), median(row.second));
-            println!("{:<52}{ours:>10.1}{second:>11.1}{ratio:>7.2}", row.name);
+            print!("{:<50}{ours:>9.1}{second:>9.1}{ratio:>7.2}", row.name);
+            if row.lent.is_empty() {
+                println!();
+            } else {
+                println!("{:>9.1}{lent_ratio:>7.2}", median(row.lent));
+            }
         }
     }
 }

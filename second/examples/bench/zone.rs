@@ -1,5 +1,4 @@
-//! One zone request with its form check, on zones of several sizes; beside
-//! the second program with the zone by value and on a reference.
+//! One zone request with its form check, on zones of several sizes.
 
 use std::hint::black_box;
 
@@ -45,21 +44,27 @@ fn case(rows: &mut Table, title: &str, zone: &Zone, request: &Request) {
     let got = product();
     assert_eq!(product::reply(request.kind, got.answer), reply.ok());
     assert_eq!(as_set(&got.zone.twin()), as_set(&next));
-    rows.compare(&format!("{title}, by value"), product, by_value);
     // The same request again leaves the zone as it is.
-    let on_reference = || requests::send(black_box(&mut next), black_box(request));
-    rows.compare(&format!("{title}, on a reference"), product, on_reference);
+    let lent = || requests::send(black_box(&mut next), black_box(request));
+    rows.compare_lent(title, product, by_value, lent);
 }
 
-/// The form check alone, with the product's zone by value and the second
-/// program's on a reference.
+/// The second program's check behind the product's interface.
+#[allow(improper_ctypes_definitions)]
+#[inline(never)]
+extern "C" fn check_by_value(zone: Zone) -> bool {
+    check(&zone).is_ok()
+}
+
+/// The form check alone.
 fn form(rows: &mut Table, title: &str, zone: &Zone, name: Name) {
     let given = zone.twin();
     let request = request(Kind::B, name);
     let product = || product::check(black_box(&given), black_box(&request));
-    let second = || check(black_box(zone));
-    assert_eq!((product(), second()), (0, Ok(())));
-    rows.compare(&format!("form check, {title}"), product, second);
+    let second = || check_by_value(black_box(zone).clone());
+    let lent = || check(black_box(zone));
+    assert_eq!((product(), second(), lent()), (0, true, Ok(())));
+    rows.compare_lent(&format!("form check, {title}"), product, second, lent);
 }
 
 /// A request at the last name of a zone, on zones of several sizes.
