@@ -58,7 +58,7 @@ pub(crate) fn print(o: &[u8], len: u8) -> u32
 }
 
 // Whether two names are equal; they are compared only where their fingerprints are equal.
-pub(crate) fn same_by_print(own: u32, o: &[u8], n: u8, print: u32, p: &[u8], m: u8) -> bool
+pub(crate) fn is_same(own: u32, o: &[u8], n: u8, print: u32, p: &[u8], m: u8) -> bool
     requires { ⌜ (length (now o) ≡ 255) × (length (now p) ≡ 255) × (own ≡ printOf (take n (now o))) × (print ≡ printOf (take m (now p))) ⌝ }
     ensures { λ r. ⌜ r ≡ sameName (take n (now (o .entry))) (take m (now (p .entry))) ⌝ }
 {

@@ -18,9 +18,9 @@ pub struct Zone {
     pub entries: [Entry; 64],
 }
 
-// inorder: every place is in order. distinct: no two names are equal. found: the place of the wanted
-// name, and free: a free place, each 64 where there is none. entry: what stands at the place found, or
-// at the first where none is.
+// inorder: every place is in order. distinct: no two names are equal. found: the place of the name
+// asked for, and free: a free place, each 64 where there is none. entry: what stands at the place found,
+// or at the first where none is.
 pub struct Survey {
     pub inorder: bool,
     pub distinct: bool,
@@ -88,10 +88,10 @@ fn names_differ(z: Zone, clear: bool) -> bool
 
 // The one walk over all places. It tells names apart by their fingerprints: where two of those are
 // equal, the names are compared.
-pub fn survey_of(z: Zone, wanted: Name) -> Survey
-    ensures { λ r. ⌜ Surveyed z (nameOf wanted) r ⌝ }
+pub fn survey_of(z: Zone, n: Name) -> Survey
+    ensures { λ r. ⌜ Surveyed z (nameOf n) r ⌝ }
 {
-    let print = name::print(&wanted.octets, wanted.len);
+    let print = name::print(&n.octets, n.len);
     let mut prints = [0u32; 64];
     let mut used: usize = 0;
     let mut inorder = true;
@@ -112,14 +112,7 @@ pub fn survey_of(z: Zone, wanted: Name) -> Survey
             let sets = entry::are_sets_sound(e.v4, e.v6);
             let fine = entry::is_in_order(kind, full, sets);
             inorder = both(inorder, fine);
-            let named = name::same_by_print(
-                own,
-                &e.name.octets,
-                e.name.len,
-                print,
-                &wanted.octets,
-                wanted.len,
-            );
+            let named = name::is_same(own, &e.name.octets, e.name.len, print, &n.octets, n.len);
             found = choose(named, i, found);
             i += 1;
         }

@@ -105,8 +105,8 @@ is-in-order-requires c κs = search needs
 both-requires : tie.Need-both-requires Inv-loop μ-loop
 both-requires c κs = search needs
 
-same-by-print-requires : tie.Need-same-by-print-requires Inv-loop μ-loop
-same-by-print-requires c κs = (search needs, search needs, c .before .before .before .before .before .before .before .before .before .before .before .before .before .before .before .print2 .ensures, c .before .before .before .before .before .before .before .before .before .before .before .before .before .before .before .before .before .before .before .before .before .before .loop .inv .0)
+is-same-requires : tie.Need-is-same-requires Inv-loop μ-loop
+is-same-requires c κs = (search needs, search needs, c .before .before .before .before .before .before .before .before .before .before .before .before .before .before .before .print2 .ensures, c .before .before .before .before .before .before .before .before .before .before .before .before .before .before .before .before .before .before .before .before .before .before .loop .inv .0)
 
 choose-requires : tie.Need-choose-requires Inv-loop μ-loop
 choose-requires c κs = search needs
@@ -126,7 +126,7 @@ loop-again-2 c =
     let h : l .i < length es = omega arith in
     let u : isUsed (getD es (l .i) blank) ≡ true = unfold isUsed in ap not (ne-eqb _ _ (c .before .before .before .before .before .before .before .before .before .before .before .before .before .before .before .before .before .before .before .before .before .before .if1 .left)) in
     let fine = order-used es blank (l .i) h u _ _ _ (c .before .before .before .before .before .before .before .before .before .is-in-order .ensures) (c .before .before .before .before .before .before .before .before .before .before .before .before .before .are-full .ensures) (c .before .before .before .before .before .before .before .before .before .before .are-sets-sound .ensures) in
-    let hit = named-used es blank (l .i) h u (nameOf (s .args .t2)) _ (c .before .same-by-print .ensures) in (
+    let hit = named-used es blank (l .i) h u (nameOf (s .args .t2)) _ (c .before .is-same .ensures) in (
       l .inv .0,
       record {
         below = omega arith;
@@ -207,7 +207,7 @@ survey-of-spec =
     are-sets-sound-requires
     is-in-order-requires
     both-requires
-    same-by-print-requires
+    is-same-requires
     choose-requires
     add-i-2
     loop-less-2

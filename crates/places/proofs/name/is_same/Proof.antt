@@ -2,8 +2,8 @@ use mathlib.Core.Path.{_≡_, sym, _∙_}
 use lib.ListN.{take}
 use Rattle.places.proofs.PrintLaws.{print-differ}
 use borrow.Author.Needs.{needs}
-use Rattle.places.proofs.name.same_by_print.Statement.{statement}
-use Rattle.places.proofs.name.same_by_print.Tie as tie
+use Rattle.places.proofs.name.is_same.Statement.{statement}
+use Rattle.places.proofs.name.is_same.Tie as tie
 
 returns : tie.Need-returns
 returns c =
@@ -16,5 +16,5 @@ same-requires c κs = search needs
 returns-2 : tie.Need-returns-2
 returns-2 c = search needs
 
-pub same-by-print-spec : {M : Type 1} → statement M
-same-by-print-spec = tie.close (tie.spec returns same-requires returns-2)
+pub is-same-spec : {M : Type 1} → statement M
+is-same-spec = tie.close (tie.spec returns same-requires returns-2)
