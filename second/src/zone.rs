@@ -265,6 +265,13 @@ pub(crate) fn check_name(name: &Name) -> Result<(), u8> {
     }
 }
 
+/// The refusals of a request in their order: 17, 18, 11.
+fn check_request(zone: &Zone, name: &Name, family: u8, policy: u8) -> Result<(), u8> {
+    check(zone)?;
+    check_numbers(family, policy)?;
+    check_name(name)
+}
+
 /// Request A: an absent name is added with DHCID and address.
 pub fn request_a(
     zone: &mut Zone,
@@ -273,9 +280,7 @@ pub fn request_a(
     family: u8,
     address: &Address,
 ) -> Result<Answer, u8> {
-    check(zone)?;
-    check_numbers(family, 0)?;
-    check_name(name)?;
+    check_request(zone, name, family, 0)?;
     Ok(send_a(zone, name, dhcid, family, address))
 }
 
@@ -288,9 +293,7 @@ pub fn request_b(
     address: &Address,
     policy: u8,
 ) -> Result<Answer, u8> {
-    check(zone)?;
-    check_numbers(family, policy)?;
-    check_name(name)?;
+    check_request(zone, name, family, policy)?;
     Ok(send_b(zone, name, dhcid, family, address, policy))
 }
 
@@ -302,9 +305,7 @@ pub fn request_remove_first(
     family: u8,
     address: &Address,
 ) -> Result<FirstAnswer, u8> {
-    check(zone)?;
-    check_numbers(family, 0)?;
-    check_name(name)?;
+    check_request(zone, name, family, 0)?;
     Ok(send_remove_first(zone, name, dhcid, family, address))
 }
 
@@ -316,9 +317,7 @@ pub fn request_remove_second(
     dhcid: &Dhcid,
     family: u8,
 ) -> Result<SecondAnswer, u8> {
-    check(zone)?;
-    check_numbers(family, 0)?;
-    check_name(name)?;
+    check_request(zone, name, family, 0)?;
     Ok(send_remove_second(zone, name, dhcid))
 }
 

@@ -6,11 +6,12 @@ use std::thread;
 
 use common::faults::{first, has_another, number};
 use common::leases::{self, Client};
-use common::lent::{afresh, Memory};
+use common::lent::afresh;
 use common::moments::no_clock;
 use common::product::lease_answer;
 use common::queries::Query;
 use common::random::{from_both_seeds, Random};
+use common::run::Run;
 use common::tally::Tally;
 use common::twin::Twin;
 use jespurla::{LeaseAnswer, Moment};
@@ -139,23 +140,7 @@ impl Tables {
     }
 }
 
-/// A run from one seed: what it drew, what it counted and the memory it
-/// lends.
-struct Run {
-    random: Random,
-    tally: Tally,
-    memory: Memory<2>,
-}
-
-impl Run {
-    fn new(seed: u64) -> Run {
-        Run {
-            random: Random::new(seed),
-            tally: Tally::new(&[KINDS]),
-            memory: Memory::new(),
-        }
-    }
-
+impl Run<2> {
     /// Runs both programs on one case and compares the whole memories.
     fn compare(&mut self, tables: &mut Tables, case: &Case) {
         let lengths = [case.packet.len(), case.reply_len];
@@ -476,5 +461,5 @@ fn count_spans(tally: &mut Tally, now: u64, lease: &Lease) {
 
 #[test]
 fn replies_are_the_same() {
-    from_both_seeds(|seed| Run::new(seed).whole());
+    from_both_seeds(|seed| Run::new(seed, KINDS).whole());
 }

@@ -2,11 +2,10 @@
 
 mod common;
 
-use common::lent::Memory;
 use common::names;
 use common::product::number;
-use common::random::{from_both_seeds, Random, FIXED_SEED};
-use common::tally::Tally;
+use common::random::{from_both_seeds, FIXED_SEED};
+use common::run::Run;
 use second::name_option::{answer, flag_decision, shape, Shape};
 
 /// Options compared by one run, at the least.
@@ -41,23 +40,7 @@ struct Case {
     reply_len: usize,
 }
 
-/// A run from one seed: what it drew, what it counted and the memory it
-/// lends.
-struct Run {
-    random: Random,
-    tally: Tally,
-    memory: Memory<3>,
-}
-
-impl Run {
-    fn new(seed: u64) -> Run {
-        Run {
-            random: Random::new(seed),
-            tally: Tally::new(&[KINDS]),
-            memory: Memory::new(),
-        }
-    }
-
+impl Run<3> {
     /// Runs both programs on one case and compares the whole memories.
     fn compare(&mut self, case: &Case) {
         let lengths = [case.value.len(), case.suffix.len(), case.reply_len];
@@ -310,14 +293,14 @@ fn every_flag_decision_is_the_same() {
 
 #[test]
 fn answers_are_the_same() {
-    from_both_seeds(|seed| Run::new(seed).whole());
+    from_both_seeds(|seed| Run::new(seed, KINDS).whole());
 }
 
 /// Fields far over any limit end in a refusal too, however many labels they
 /// have.
 #[test]
 fn huge_fields_are_answered_the_same() {
-    let mut run = Run::new(FIXED_SEED);
+    let mut run = Run::new(FIXED_SEED, KINDS);
     let labels = |octets: usize| [1, b'a'].repeat(octets / 2);
     for octets in [256, 65_536, 65_792, 4_000_000] {
         for closing in [&[][..], &[0]] {

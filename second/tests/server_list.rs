@@ -3,9 +3,9 @@
 mod common;
 
 use common::areas::{self, place_of};
-use common::lent::Memory;
 use common::moments::no_moment;
-use common::random::{from_both_seeds, Random};
+use common::random::from_both_seeds;
+use common::run::Run;
 use common::tally::Tally;
 use common::twin::Twin;
 use jespurla::Moment;
@@ -240,23 +240,7 @@ fn count_eviction(
     }
 }
 
-/// A run from one seed: what it drew, what it counted and the memory it
-/// lends the area in.
-struct Run {
-    random: Random,
-    tally: Tally,
-    memory: Memory<1>,
-}
-
-impl Run {
-    fn new(seed: u64) -> Run {
-        Run {
-            random: Random::new(seed),
-            tally: Tally::new(&[KINDS]),
-            memory: Memory::new(),
-        }
-    }
-
+impl Run<1> {
     /// Runs both programs on one case and compares refusal, list and lent
     /// memory. The list for the next call is the product's.
     fn compare(&mut self, case: &Case) -> ServerList {
@@ -427,5 +411,5 @@ impl Run {
 
 #[test]
 fn lists_are_the_same() {
-    from_both_seeds(|seed| Run::new(seed).whole());
+    from_both_seeds(|seed| Run::new(seed, KINDS).whole());
 }

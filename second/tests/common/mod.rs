@@ -14,6 +14,7 @@ pub mod product;
 pub mod queries;
 pub mod random;
 pub mod requests;
+pub mod run;
 pub mod tally;
 pub mod twin;
 pub mod zones;
