@@ -89,7 +89,8 @@ kind-step a z beforeSecond =
     ∙ (unfold isAdd stageNumber in refl)
 kind-step a z (ended e) = refl
 
--- a listed number's stage has that number
+-- ---- a listed number's stage has that number
+
 pub number-back : (s n : ℕ) → stageListed s ≡ true → stageNumber (stageOf s n) ≡ s
 unfolding stageNumber stageOf stageListed
 number-back zero n h = absurd (true≢false (sym h ∙ (unfold among in refl)))
@@ -109,6 +110,8 @@ number-back (suc (suc (suc (suc (suc (suc (suc (suc (suc (suc (suc (suc (suc zer
 number-back (suc (suc (suc (suc (suc (suc (suc (suc (suc (suc (suc (suc (suc (suc zero)))))))))))))) n h = refl
 number-back (suc (suc (suc (suc (suc (suc (suc (suc (suc (suc (suc (suc (suc (suc (suc zero))))))))))))))) n h = refl
 number-back (suc (suc (suc (suc (suc (suc (suc (suc (suc (suc (suc (suc (suc (suc (suc (suc s)))))))))))))))) n h = absurd (true≢false (sym h ∙ not-listed (suc (suc (suc (suc (suc (suc (suc (suc (suc (suc (suc (suc (suc (suc (suc (suc s)))))))))))))))) (omega arith)))
+
+-- ---- a job whose numbers are listed
 
 module _ (j : Job) (h : numbersListed j ≡ true) where
   pub listed-stage : stageListed (j .stage) ≡ true
