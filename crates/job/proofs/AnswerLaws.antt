@@ -1,9 +1,7 @@
 -- Where each answer's number leads a job. Assumes nothing.
 use mathlib.Core.Path.{_≡_, refl, sym, _∙_, ap}
 use mathlib.Core.Bool.{Bool, false, cond}
-use Prim.Native.Nat.{ℕ, suc, _+_}
-use native.Mathlib.Numerals.{add-one}
-use native.Mathlib.Omega.{arith}
+use Prim.Native.Nat.{ℕ}
 use borrow.Author.Tests.{eq-eqb, ne-eqb}
 use Rattle.zone.specs.Zone.{Answer, success, YXDOMAIN, NXDOMAIN, NXRRSET, noRoom}
 use Rattle.zone.specs.Promise.{numberOf}
@@ -20,44 +18,41 @@ failed NXDOMAIN x n e = refl
 failed NXRRSET x n e = refl
 failed noRoom x n e = refl
 
--- ---- an add, n requests sent before this one
+-- ---- an add, n requests sent, the one answered among them
 
 module _ (j : Job) (x n : ℕ) where
   -- the job at the stage that the rule gives for one answer is the job at that for another that is the same
   by : (rule : Answer → Stage) (a b : Answer) → a ≡ b → atStage j (rule b) ≡ atStage j (rule a)
   by rule a b e = ap (λ (c : Answer). atStage j (rule c)) (sym e)
 
-  counted : (stage : ℕ) → placed j stage (n + 1) ≡ placed j stage (suc n)
-  counted stage = ap (placed j stage) (add-one n)
-
-  pub leads-done : x ≡ 0 → Leads j x (after (suc n)) (placed j 3 (n + 1))
+  pub leads-done : x ≡ 0 → Leads j x (after n) (placed j 3 n)
   unfolding after atStage stageNumber stageCount
-  leads-done e a q = counted 3 ∙ by (after (suc n)) a success (is-success a (sym e ∙ q))
+  leads-done e a q = by (after n) a success (is-success a (sym e ∙ q))
 
-  pub leads-b : x ≡ 6 → Leads j x (after (suc n)) (placed j 2 (n + 1))
+  pub leads-b : x ≡ 6 → Leads j x (after n) (placed j 2 n)
   unfolding after atStage stageNumber stageCount
-  leads-b e a q = counted 2 ∙ by (after (suc n)) a YXDOMAIN (is-yxdomain a (sym e ∙ q))
+  leads-b e a q = by (after n) a YXDOMAIN (is-yxdomain a (sym e ∙ q))
 
-  pub leads-conflict : x ≡ 8 → Leads j x (after (suc n)) (placed j 4 (n + 1))
+  pub leads-conflict : x ≡ 8 → Leads j x (after n) (placed j 4 n)
   unfolding after atStage stageNumber stageCount
-  leads-conflict e a q = counted 4 ∙ by (after (suc n)) a NXRRSET (is-nxrrset a (sym e ∙ q))
+  leads-conflict e a q = by (after n) a NXRRSET (is-nxrrset a (sym e ∙ q))
 
-  pub leads-no-room : x ≡ 256 → Leads j x (after (suc n)) (placed j 5 (n + 1))
+  pub leads-no-room : x ≡ 256 → Leads j x (after n) (placed j 5 n)
   unfolding after atStage stageNumber stageCount
-  leads-no-room e a q = counted 5 ∙ by (after (suc n)) a noRoom (is-no-room a (sym e ∙ q))
+  leads-no-room e a q = by (after n) a noRoom (is-no-room a (sym e ∙ q))
 
   module _ (u : x ≡ 0 → ⊥) (v : x ≡ 6 → ⊥) (w : x ≡ 8 → ⊥) (y : x ≡ 256 → ⊥) where
-    pub leads-gave-up : n + 1 ≡ 6 → Leads j x (after (suc n)) (placed j 6 (n + 1))
+    pub leads-gave-up : n ≡ 6 → Leads j x (after n) (placed j 6 n)
     unfolding after atStage stageNumber stageCount
     leads-gave-up e a q =
-        counted 6 ∙ ap (λ (b : Bool). atStage j (cond b (ended (gaveUp (suc n))) (beforeA (suc n)))) (sym (eq-eqb (suc n) 6 (sym (add-one n) ∙ e)))
-        ∙ by (after (suc n)) a NXDOMAIN (is-nxdomain a x u v w y q)
+        ap (λ (b : Bool). atStage j (cond b (ended (gaveUp n)) (beforeA n))) (sym (eq-eqb n 6 e))
+        ∙ by (after n) a NXDOMAIN (is-nxdomain a x u v w y q)
 
-    pub leads-a : (n + 1 ≡ 6 → ⊥) → Leads j x (after (suc n)) (placed j 1 (n + 1))
+    pub leads-a : (n ≡ 6 → ⊥) → Leads j x (after n) (placed j 1 n)
     unfolding after atStage stageNumber stageCount
     leads-a e a q =
-        counted 1 ∙ ap (λ (b : Bool). atStage j (cond b (ended (gaveUp (suc n))) (beforeA (suc n)))) (sym (ne-eqb (suc n) 6 (λ p. e (add-one n ∙ p))))
-        ∙ by (after (suc n)) a NXDOMAIN (is-nxdomain a x u v w y q)
+        ap (λ (b : Bool). atStage j (cond b (ended (gaveUp n)) (beforeA n))) (sym (ne-eqb n 6 e))
+        ∙ by (after n) a NXDOMAIN (is-nxdomain a x u v w y q)
 
 -- ---- a remove
 

@@ -1,4 +1,4 @@
--- What a struct means after a step, and after a new job call: all that a layer above needs of the structs. Assumes nothing.
+-- What a job's struct means: its stage, its kind, and a new job. Assumes nothing.
 use mathlib.Core.Path.{_≡_, refl, sym, _∙_, ap}
 use mathlib.Core.Bool.{Bool, true, false, cond, _&&_}
 use Prim.Native.Nat.{ℕ, zero, suc}
@@ -7,22 +7,20 @@ use lib.Dec.{eqb}
 use borrow.Author.Tests.{eq-eqb}
 use Rattle.hosts.specs.Count.{Octets}
 use Rattle.hosts.proofs.CountLaws.{true≢false, and-left, and-right}
-use Rattle.places.specs.declared.survey.Zone.{Zone}
 use Rattle.places.specs.declared.name.Name.{Name}
 use Rattle.places.specs.declared.entry.Dhcid.{Dhcid}
 use Rattle.places.specs.declared.entry.Address.{Address}
 use Rattle.zone.specs.Zone as abstract
 use Rattle.zone.specs.Zone.{Answer, success, YXDOMAIN, NXDOMAIN, NXRRSET, noRoom, keepOthers, Policy, requestA, requestB, removeAddress, removeName}
-use Rattle.places.specs.Meaning.{nameOf, isFull, formed}
-use Rattle.zone.specs.Meaning.{listed, policyOf, updateOf, zoneOf}
+use Rattle.places.specs.Meaning.{nameOf, isFull}
+use Rattle.zone.specs.Meaning.{listed, policyOf, updateOf}
 use Rattle.zone.proofs.AnswerLaws.{policy-zero}
 use Rattle.job.specs.declared.job.Job.{Job}
 use Rattle.job.specs.declared.fresh.NewJob.{NewJob}
-use Rattle.job.specs.declared.step.Stepped.{Stepped}
 use Rattle.job.specs.Jobs.{add, remove, Arguments, Stage, beforeA, beforeB, beforeFirst, beforeSecond, ended, End, done, conflict, gaveUp, notOurs, gone, kept, among, possible, after, passed, afterFirst, afterSecond, step}
-use Rattle.job.specs.Meaning.{stageNumber, stageCount, stageOf, stageListed, canHave, isAdd, argumentsOf, jobOf, atStage, numbersListed, freshAdd, freshRemove, blank}
+use Rattle.job.specs.Meaning.{stageNumber, stageCount, stageOf, stageListed, canHave, isAdd, argumentsOf, jobOf, numbersListed, freshAdd, freshRemove, blank}
 use Rattle.job.proofs.StageLaws.{not-listed}
-use Rattle.job.specs.Promise.{newRefusal, newJob, stepRefusal, stepOf, StepPromise}
+use Rattle.job.specs.Promise.{newRefusal, newJob}
 
 -- ---- a stage's number and count stand for the stage
 
@@ -60,7 +58,7 @@ can-back s m = rw (number-listed s, stage-back s m) refl
 
 -- ---- a step keeps the kind
 
-abbrev ofAdd : Stage → Bool
+abbrev pub ofAdd : Stage → Bool
 ofAdd s = isAdd (stageNumber s)
 
 add-after : (n : ℕ) (a : Answer) → ofAdd (after n a) ≡ true
@@ -79,7 +77,7 @@ remove-after : (b : Bool) (s t : Stage) → ofAdd s ≡ false → ofAdd t ≡ fa
 remove-after true s t h k = h
 remove-after false s t h k = k
 
-kind-step : (a : Arguments) (z : abstract.Zone) (s : Stage) → ofAdd (step a z s .stage) ≡ ofAdd s
+pub kind-step : (a : Arguments) (z : abstract.Zone) (s : Stage) → ofAdd (step a z s .stage) ≡ ofAdd s
 unfolding step afterFirst afterSecond
 kind-step a z (beforeA n) = add-after (suc n) (requestA (a .update) z .answer) ∙ (unfold isAdd stageNumber in refl)
 kind-step a z (beforeB n) = add-after (suc n) (requestB (a .policy) (a .update) z .answer) ∙ (unfold isAdd stageNumber in refl)
@@ -91,8 +89,9 @@ kind-step a z beforeSecond =
     ∙ (unfold isAdd stageNumber in refl)
 kind-step a z (ended e) = refl
 
--- a listed number's stage has that number
-number-back : (s n : ℕ) → stageListed s ≡ true → stageNumber (stageOf s n) ≡ s
+-- ---- a listed number's stage has that number
+
+pub number-back : (s n : ℕ) → stageListed s ≡ true → stageNumber (stageOf s n) ≡ s
 unfolding stageNumber stageOf stageListed
 number-back zero n h = absurd (true≢false (sym h ∙ (unfold among in refl)))
 number-back (suc zero) n h = refl
@@ -112,74 +111,20 @@ number-back (suc (suc (suc (suc (suc (suc (suc (suc (suc (suc (suc (suc (suc (su
 number-back (suc (suc (suc (suc (suc (suc (suc (suc (suc (suc (suc (suc (suc (suc (suc zero))))))))))))))) n h = refl
 number-back (suc (suc (suc (suc (suc (suc (suc (suc (suc (suc (suc (suc (suc (suc (suc (suc s)))))))))))))))) n h = absurd (true≢false (sym h ∙ not-listed (suc (suc (suc (suc (suc (suc (suc (suc (suc (suc (suc (suc (suc (suc (suc (suc s)))))))))))))))) (omega arith)))
 
-module _ (z : Zone) (j : Job) (h : numbersListed j ≡ true) where
-  listed-stage : stageListed (j .stage) ≡ true
+-- ---- a job whose numbers are listed
+
+module _ (j : Job) (h : numbersListed j ≡ true) where
+  pub listed-stage : stageListed (j .stage) ≡ true
   unfolding numbersListed canHave
   listed-stage =
       and-left (stageListed (j .stage)) (possible (stageOf (j .stage) (j .count)))
       (and-right (listed (j .family) (cond (isAdd (j .stage)) (j .policy) 0)) (stageListed (j .stage) && possible (stageOf (j .stage) (j .count))) h)
-
-  pub kind-same : isAdd (stageNumber (stepOf z j .stage)) ≡ isAdd (j .stage)
-  kind-same = kind-step (argumentsOf j) (zoneOf z) (stageOf (j .stage) (j .count)) ∙ ap isAdd (number-back (j .stage) (j .count) listed-stage)
-
-  arguments-same : argumentsOf (atStage j (stepOf z j .stage)) ≡ argumentsOf j
-  unfolding argumentsOf atStage
-  arguments-same = ap (λ (b : Bool). record { kind = cond b add remove; update = updateOf (j .name) (j .dhcid) (j .family) (j .address); policy = policyOf (j .policy) }) kind-same
-
-  pub listed-after : possible (stepOf z j .stage) ≡ true → numbersListed (atStage j (stepOf z j .stage)) ≡ true
-  unfolding numbersListed atStage
-  listed-after p =
-      let l : listed (j .family) (cond (isAdd (j .stage)) (j .policy) 0) ≡ true =
-      and-left (listed (j .family) (cond (isAdd (j .stage)) (j .policy) 0)) (canHave (j .stage) (j .count)) h in
-      rw (kind-same, l, can-back (stepOf z j .stage) (j .count)) p
 
   pub possible-before : possible (jobOf j .stage) ≡ true
   unfolding numbersListed canHave jobOf
   possible-before =
       and-right (stageListed (j .stage)) (possible (stageOf (j .stage) (j .count)))
       (and-right (listed (j .family) (cond (isAdd (j .stage)) (j .policy) 0)) (stageListed (j .stage) && possible (stageOf (j .stage) (j .count))) h)
-
--- ---- a step that is not refused
-
-pub listed-of : (z : Zone) (j : Job) → stepRefusal z j ≡ 0 → numbersListed j ≡ true
-unfolding stepRefusal
-listed-of z j e = go (formed z) (numbersListed j) (isFull (nameOf (j .name))) e
-  where
-    go : (a b c : Bool) → _≡_ {A = ℕ} (cond a (cond b (cond c 0 11) 18) 17) 0 → b ≡ true
-    go a true c q = refl
-    go true false c q = absurd (omega arith)
-    go false false c q = absurd (omega arith)
-
-pub full-of : (z : Zone) (j : Job) → stepRefusal z j ≡ 0 → isFull (nameOf (j .name)) ≡ true
-unfolding stepRefusal
-full-of z j e = go (formed z) (numbersListed j) (isFull (nameOf (j .name))) e
-  where
-    go : (a b c : Bool) → _≡_ {A = ℕ} (cond a (cond b (cond c 0 11) 18) 17) 0 → c ≡ true
-    go a b true q = refl
-    go true true false q = absurd (omega arith)
-    go true false false q = absurd (omega arith)
-    go false b false q = absurd (omega arith)
-
-pub unrefused : (z : Zone) (j : Job) → formed z ≡ true → numbersListed j ≡ true → isFull (nameOf (j .name)) ≡ true → stepRefusal z j ≡ 0
-unfolding stepRefusal
-unrefused z j f n l = rw (f, n, l) refl
-
-module _ (z : Zone) (j : Job) (r : Stepped) (p : StepPromise z j r) (e : r .refusal ≡ 0) where
-  none : stepRefusal z j ≡ 0
-  none = sym (p .refusalIs) ∙ e
-
-  pub zone-after : zoneOf (r .zone) ≡ step (jobOf j .arguments) (zoneOf z) (jobOf j .stage) .zone
-  unfolding jobOf
-  zone-after = p .zoneIs none
-
-  pub job-after : jobOf (r .job) ≡ record { arguments = jobOf j .arguments; stage = step (jobOf j .arguments) (zoneOf z) (jobOf j .stage) .stage }
-  unfolding jobOf
-  job-after =
-      ap (λ (k : Job). jobOf k) (p .jobIs none)
-      ∙ (λ i. record { arguments = arguments-same z j (listed-of z j none) i; stage = back i })
-    where
-      back : stageOf (atStage j (stepOf z j .stage) .stage) (atStage j (stepOf z j .stage) .count) ≡ stepOf z j .stage
-      back = unfold atStage in stage-back (stepOf z j .stage) (j .count)
 
 -- ---- a new job that is not refused
 

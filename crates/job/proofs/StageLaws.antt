@@ -5,8 +5,6 @@ use mathlib.Core.List.{List, [], _∷_}
 use Prim.Native.Nat.{ℕ, zero, suc, _≤_, _<_}
 use native.Mathlib.Omega.{arith}
 use lib.Dec.{eqb, leb}
-use lib.ListN.{length, take}
-use lib.Seq.{length-take-le}
 use borrow.Author.Tests.{lt-leb, le-leb, ne-eqb, eqb-true}
 use Rattle.hosts.proofs.CountLaws.{true≢false}
 use Rattle.zone.specs.Meaning.{listed}
@@ -149,8 +147,3 @@ module _ (j : Job) (h : 6 < j .stage) where
   pub remove-numbers : listed (j .family) 0 ≡ true → numbersListed j ≡ canHave (j .stage) (j .count)
   unfolding numbersListed isAdd
   remove-numbers l = rw (lt-leb (j .stage) 6 h, l) refl
-
--- ---- the first octets of an array
-
-pub prefix-length : {A : Type 0} (l : List A) (n : ℕ) → n ≤ length l → n ≡ length (take n l)
-prefix-length l n h = sym (length-take-le n l h)

@@ -2,7 +2,7 @@
 pub mod Jobs
 -- What the structs mean.
 pub mod Meaning
--- What each public call promises.
+-- What each call for a new job promises.
 pub mod Promise
--- For the contracts of inner functions; no public promise cites these.
+-- For the contracts of functions that are not exported.
 pub mod Inner

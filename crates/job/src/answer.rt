@@ -1,7 +1,6 @@
 // Where an answer leads a job.
 use crate::job::Job;
 ghost use mathlib.Core.Path.{_≡_};
-ghost use Prim.Native.Nat.{suc, _<_};
 ghost use Rattle.job.specs.Jobs.{after, afterFirst, afterSecond};
 ghost use Rattle.job.specs.Inner.{placed, Leads};
 
@@ -15,32 +14,30 @@ fn moved(job: Job, stage: u8, count: u8) -> Job
     j
 }
 
-// An add, after request A or B: the request just answered is counted.
-pub(crate) fn after_add(job: Job, answer: u32) -> Job
-    requires { ⌜ job .count < 6 ⌝ }
-    ensures { λ r. ⌜ Leads job answer (after (suc (job .count))) r ⌝ }
+// An add, after request A or B. sent: its requests, the one just answered among them.
+pub fn after_add(job: Job, sent: u8, answer: u32) -> Job
+    ensures { λ r. ⌜ Leads job answer (after sent) r ⌝ }
 {
-    let n = job.count + 1;
     if answer == 0 {
-        return moved(job, 3, n);
+        return moved(job, 3, sent);
     }
     if answer == 6 {
-        return moved(job, 2, n);
+        return moved(job, 2, sent);
     }
     if answer == 8 {
-        return moved(job, 4, n);
+        return moved(job, 4, sent);
     }
     if answer == 256 {
-        return moved(job, 5, n);
+        return moved(job, 5, sent);
     }
-    if n == 6 {
-        return moved(job, 6, n);
+    if sent == 6 {
+        return moved(job, 6, sent);
     }
-    moved(job, 1, n)
+    moved(job, 1, sent)
 }
 
 // A remove, after its first request.
-pub(crate) fn after_first(job: Job, answer: u32) -> Job
+pub fn after_first(job: Job, answer: u32) -> Job
     ensures { λ r. ⌜ Leads job answer afterFirst r ⌝ }
 {
     if answer == 0 {
@@ -50,7 +47,7 @@ pub(crate) fn after_first(job: Job, answer: u32) -> Job
 }
 
 // A remove, after its second request.
-pub(crate) fn after_second(job: Job, answer: u32) -> Job
+pub fn after_second(job: Job, answer: u32) -> Job
     ensures { λ r. ⌜ Leads job answer afterSecond r ⌝ }
 {
     if answer == 0 {

@@ -63,7 +63,7 @@ fn remove_can(stage: u8, count: u8) -> bool
 }
 
 // Whether a job's numbers are listed, and its stage can have its count.
-pub(crate) fn numbers_listed(job: Job) -> bool
+pub fn numbers_listed(job: Job) -> bool
     ensures { λ r. ⌜ r ≡ numbersListed job ⌝ }
 {
     let stage = job.stage;

@@ -6,11 +6,13 @@ use Rattle.places.specs.Meaning.{nameOf, isFull, formed}
 use Rattle.zone.specs.Meaning.{zoneOf}
 use Rattle.zone.proofs.PlaceLaws.{form-of}
 use Rattle.job.specs.declared.job.Job.{Job}
-use Rattle.job.specs.declared.step.Stepped.{Stepped}
 use Rattle.job.specs.Jobs.{Arguments, possible, fresh}
 use Rattle.job.specs.Meaning.{argumentsOf, stageOf, jobOf, atStage, numbersListed, freshAdd, freshRemove}
-use Rattle.job.specs.Promise.{newRefusal, stepRefusal, stepOf, StepPromise}
-use Rattle.job.proofs.JobLaws.{listed-after, possible-before, listed-of, full-of, unrefused, zone-after, job-after, new-none, new-is, add-is, remove-is, add-listed, add-full, remove-listed, remove-full}
+use Rattle.job.specs.Promise.{newRefusal}
+use Rattle.job.proofs.JobLaws.{possible-before, new-none, new-is, add-is, remove-is, add-listed, add-full, remove-listed, remove-full}
+use Rattle.step.specs.declared.Stepped.{Stepped}
+use Rattle.step.specs.Promise.{stepRefusal, stepOf, StepPromise}
+use Rattle.step.proofs.AfterLaws.{listed-after, listed-of, full-of, unrefused, zone-after, job-after}
 use Rattle.serial.specs.Demand.{Promises}
 use Rattle.serial.specs.Running.{NewCall, newAdd, newRemove, running, Delivered}
 use Rattle.serial.proofs.StageLaws.{possible-step}
@@ -59,7 +61,7 @@ module _ (z : Zone) (k : Job) (r : Stepped) (p : StepPromise z k r) where
     step-ok = subst Ok (sym (p .jobIs none)) (listed-after z k (listed-of z k none) can, (unfold atStage in full-of z k none))
       where
         can : possible (stepOf z k .stage) ≡ true
-        can = possible-step (argumentsOf k) (zoneOf z) (stageOf (k .stage) (k .count)) (unfold jobOf in possible-before z k (listed-of z k none))
+        can = possible-step (argumentsOf k) (zoneOf z) (stageOf (k .stage) (k .count)) (unfold jobOf in possible-before k (listed-of z k none))
 
 pub taken : Taken running (λ (z : Zone). formed z ≡ true) Ok
 taken = record {

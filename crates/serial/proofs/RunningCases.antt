@@ -7,12 +7,12 @@ use Rattle.places.specs.Meaning.{formed}
 use Rattle.zone.specs.Zone as rules
 use Rattle.zone.specs.Meaning.{zoneOf}
 use Rattle.job.specs.declared.job.Job.{Job}
-use Rattle.job.specs.declared.step.Stepped.{Stepped}
 use Rattle.job.specs.Jobs as jobs
 use Rattle.job.specs.Jobs.{gone, conflict, ended}
 use Rattle.job.specs.Meaning.{jobOf}
-use Rattle.job.specs.Promise.{StepPromise}
-use Rattle.job.proofs.JobLaws.{zone-after, job-after}
+use Rattle.step.specs.declared.Stepped.{Stepped}
+use Rattle.step.specs.Promise.{StepPromise}
+use Rattle.step.proofs.AfterLaws.{zone-after, job-after}
 use Rattle.serial.specs.Demand.{noJob, oneMore, start, stepped, HeldHaveAddress, Story, Serializable}
 use Rattle.serial.specs.Running.{NewCall, running}
 use Rattle.serial.proofs.Running.{kept-promises, taken, delivered}

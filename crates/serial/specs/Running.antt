@@ -1,4 +1,4 @@
--- The calls that run: demand 3's calls with the structs and the promises of crate job, and the theorem about them.
+-- The calls that run: demand 3's calls with the structs and the promises of crates job and step, and the theorem about them.
 use mathlib.Core.Path.{_≡_}
 use mathlib.Core.Bool.{true}
 use Prim.Native.Nat.{ℕ}
@@ -11,10 +11,11 @@ use Rattle.places.specs.Meaning.{formed}
 use Rattle.zone.specs.Meaning.{zoneOf, policyOf, updateOf}
 use Rattle.job.specs.declared.job.Job.{Job}
 use Rattle.job.specs.declared.fresh.NewJob.{NewJob}
-use Rattle.job.specs.declared.step.Stepped.{Stepped}
 use Rattle.job.specs.Jobs.{Arguments, add, remove}
 use Rattle.job.specs.Meaning.{jobOf}
-use Rattle.job.specs.Promise.{AddPromise, RemovePromise, StepPromise}
+use Rattle.job.specs.Promise.{AddPromise, RemovePromise}
+use Rattle.step.specs.declared.Stepped.{Stepped}
+use Rattle.step.specs.Promise.{StepPromise}
 use Rattle.serial.specs.Demand.{Calls, Demand3, Stronger, LeftOutIdle, EndsInTime, NeverRefused, SixAtMost}
 
 -- A new job call that was not refused: what it was given, and the job that it gave. The contracts of the two calls are all that is known.

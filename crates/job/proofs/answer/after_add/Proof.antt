@@ -4,9 +4,6 @@ use borrow.Author.Needs.{needs}
 use Rattle.job.proofs.answer.after_add.Statement.{statement}
 use Rattle.job.proofs.answer.after_add.Tie as tie
 
-add-n : tie.Need-add-n
-add-n c = search needs
-
 moved-requires : tie.Need-moved-requires
 moved-requires c κs = search needs
 
@@ -47,7 +44,6 @@ pub after-add-spec : {M : Type 1} → statement M
 after-add-spec =
     tie.close
     (tie.spec
-    add-n
     moved-requires
     returns
     moved-requires-2

@@ -1,27 +1,29 @@
 -- What a request's promise, the way on from its answer and the job's numbers make of a step. Assumes nothing.
 use mathlib.Core.Path.{_≡_, refl, sym, _∙_, ap, subst}
-use mathlib.Core.Bool.{Bool, true, false, cond, and-true}
+use mathlib.Core.Bool.{Bool, true, false, cond}
 use mathlib.Core.List.{[], _∷_}
-use Prim.Native.Nat.{ℕ, zero, suc, _<_}
+use Prim.Native.Nat.{ℕ, zero, suc, _+_, _<_}
+use native.Mathlib.Numerals.{add-one}
 use native.Mathlib.Omega.{arith}
-use lib.Dec.{eqb, leb}
+use lib.Dec.{leb}
 use borrow.Author.Tests.{eq-eqb, ne-eqb, lt-leb}
 use Rattle.hosts.proofs.CountLaws.{true≢false, and-left, and-right}
 use Rattle.places.specs.declared.survey.Zone.{Zone}
 use Rattle.zone.specs.declared.request.Answered.{Answered}
 use Rattle.zone.specs.Zone.{Answer, Outcome, requestA, requestB, removeAddress, removeName}
-use Rattle.places.specs.Meaning.{nameOf, isFull, formed}
+use Rattle.places.specs.Meaning.{nameOf, formed}
 use Rattle.zone.specs.Meaning.{listed, policyOf, updateOf, zoneOf}
 use Rattle.zone.specs.Promise.{refusalOf, numberOf, Promised}
 use Rattle.zone.proofs.AnswerLaws.{listed-zero}
 use Rattle.zone.proofs.PromiseLaws.{refusal-listed, says-17, not-17}
 use Rattle.job.specs.declared.job.Job.{Job}
-use Rattle.job.specs.declared.step.Stepped.{Stepped}
 use Rattle.job.specs.Jobs.{Stage, ended, End, done, conflict, noRoom, gaveUp, notOurs, gone, kept, State, goesOn, after, afterFirst, afterSecond, step}
 use Rattle.job.specs.Meaning.{stageNumber, stageCount, stageOf, canHave, isAdd, argumentsOf, atStage, numbersListed}
-use Rattle.job.specs.Promise.{stepRefusal, stepOf, StepPromise}
-use Rattle.job.specs.Inner.{Leads, Carried, Idle}
+use Rattle.job.specs.Inner.{Leads}
 use Rattle.job.proofs.StageLaws.{each-among, can-a, can-b, can-nothing, can-low, can-remove}
+use Rattle.step.specs.declared.Stepped.{Stepped}
+use Rattle.step.specs.Promise.{stepRefusal, stepOf, StepPromise}
+use Rattle.step.specs.Inner.{Carried, Idle}
 
 -- ---- the numbers of a job
 
@@ -57,12 +59,12 @@ module _ (z : Zone) (j : Job) where
   at-stage : (s : ℕ) → j .stage ≡ s → stepOf z j ≡ step (argumentsOf j) (zoneOf z) (stageOf s (j .count))
   at-stage s e = ap (λ (t : ℕ). step (argumentsOf j) (zoneOf z) (stageOf t (j .count))) e
 
-  pub step-at-a : j .stage ≡ 1 → stepOf z j ≡ goesOn (requestA (updateOf (j .name) (j .dhcid) (j .family) (j .address)) (zoneOf z)) (after (suc (j .count)))
-  step-at-a e = at-stage 1 e ∙ (unfold argumentsOf stageOf step in refl)
+  pub step-at-a : j .stage ≡ 1 → stepOf z j ≡ goesOn (requestA (updateOf (j .name) (j .dhcid) (j .family) (j .address)) (zoneOf z)) (after (j .count + 1))
+  step-at-a e = at-stage 1 e ∙ (unfold argumentsOf stageOf step in rw (add-one (j .count)) refl)
 
   pub step-at-b : j .stage ≡ 2
-      → stepOf z j ≡ goesOn (requestB (policyOf (j .policy)) (updateOf (j .name) (j .dhcid) (j .family) (j .address)) (zoneOf z)) (after (suc (j .count)))
-  step-at-b e = at-stage 2 e ∙ (unfold argumentsOf stageOf step in refl)
+      → stepOf z j ≡ goesOn (requestB (policyOf (j .policy)) (updateOf (j .name) (j .dhcid) (j .family) (j .address)) (zoneOf z)) (after (j .count + 1))
+  step-at-b e = at-stage 2 e ∙ (unfold argumentsOf stageOf step in rw (add-one (j .count)) refl)
 
   pub step-at-first : j .stage ≡ 11 → stepOf z j ≡ goesOn (removeAddress (updateOf (j .name) (j .dhcid) (j .family) (j .address)) (zoneOf z)) afterFirst
   step-at-first e = at-stage 11 e ∙ (unfold argumentsOf stageOf step in refl)

@@ -1,7 +1,7 @@
-use Rattle.job.proofs.StepLaws.{step-idle}
+use Rattle.step.proofs.StepLaws.{step-idle}
 use borrow.Author.Needs.{needs}
-use Rattle.job.proofs.step.step_ended.Statement.{statement}
-use Rattle.job.proofs.step.step_ended.Tie as tie
+use Rattle.step.proofs.step_ended.Statement.{statement}
+use Rattle.step.proofs.step_ended.Tie as tie
 
 jespurla-zone-check-requires : tie.Need-jespurla-zone-check-requires
 jespurla-zone-check-requires c κs = search needs

@@ -2,8 +2,8 @@ use borrow.Author.Tests.{eq-eqb}
 use mathlib.Core.Path.{refl, sym, ap}
 use mathlib.Core.Bool.{Bool, cond}
 use borrow.Author.Tests.{ne-eqb}
-use Rattle.job.proofs.step.carried.Statement.{statement}
-use Rattle.job.proofs.step.carried.Tie as tie
+use Rattle.step.proofs.carried.Statement.{statement}
+use Rattle.step.proofs.carried.Tie as tie
 
 returns : tie.Need-returns
 returns c = record { refusalIs = refl; zoneIs = refl; jobIs = sym (ap (λ (b : Bool). cond b (c .before .before .before .args .next) (c .before .before .before .args .job)) (ne-eqb (c .before .before .before .args .sent .refusal) 0 (c .if1 .taken))) }

@@ -1,7 +1,7 @@
-use Rattle.job.proofs.StepLaws.{numbers-zero, step-at-first, step-kept}
+use Rattle.step.proofs.StepLaws.{numbers-zero, step-at-first, step-kept}
 use borrow.Author.Needs.{needs}
-use Rattle.job.proofs.step.step_first.Statement.{statement}
-use Rattle.job.proofs.step.step_first.Tie as tie
+use Rattle.step.proofs.step_first.Statement.{statement}
+use Rattle.step.proofs.step_first.Tie as tie
 
 jespurla-request-remove-address-requires : tie.Need-jespurla-request-remove-address-requires
 jespurla-request-remove-address-requires c κs = search needs

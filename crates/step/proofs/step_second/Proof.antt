@@ -1,7 +1,7 @@
-use Rattle.job.proofs.StepLaws.{numbers-zero, step-at-second, step-kept}
+use Rattle.step.proofs.StepLaws.{numbers-zero, step-at-second, step-kept}
 use borrow.Author.Needs.{needs}
-use Rattle.job.proofs.step.step_second.Statement.{statement}
-use Rattle.job.proofs.step.step_second.Tie as tie
+use Rattle.step.proofs.step_second.Statement.{statement}
+use Rattle.step.proofs.step_second.Tie as tie
 
 jespurla-request-remove-name-requires : tie.Need-jespurla-request-remove-name-requires
 jespurla-request-remove-name-requires c κs = search needs

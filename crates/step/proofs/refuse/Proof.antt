@@ -1,8 +1,8 @@
 use mathlib.Core.Path.{sym, _∙_}
-use Rattle.job.proofs.StepLaws.{form-fails, form-holds, refused-form, refused-numbers}
+use Rattle.step.proofs.StepLaws.{form-fails, form-holds, refused-form, refused-numbers}
 use borrow.Author.Needs.{needs}
-use Rattle.job.proofs.step.refuse.Statement.{statement}
-use Rattle.job.proofs.step.refuse.Tie as tie
+use Rattle.step.proofs.refuse.Statement.{statement}
+use Rattle.step.proofs.refuse.Tie as tie
 
 jespurla-zone-check-requires : tie.Need-jespurla-zone-check-requires
 jespurla-zone-check-requires c κs = search needs

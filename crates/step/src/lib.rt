@@ -1,15 +1,16 @@
-// The step of a job: the one request that its stage asks for, and where the answer leads.
-use crate::answer;
-use crate::job::Job;
-use crate::stage;
+// The step of a job: the one request that its stage asks for, and where the answer leads. The zone is
+// known by the promises of its requests alone.
+use job::answer;
+use job::job::Job;
+use job::stage;
 use places::survey::Zone;
 use zone::request;
 use zone::request::Answered;
 ghost use mathlib.Core.Path.{_≡_};
 ghost use mathlib.Core.Bool.{true, false};
 ghost use Rattle.job.specs.Meaning.{numbersListed};
-ghost use Rattle.job.specs.Promise.{StepPromise};
-ghost use Rattle.job.specs.Inner.{Carried, Idle};
+ghost use Rattle.step.specs.Promise.{StepPromise};
+ghost use Rattle.step.specs.Inner.{Carried, Idle};
 
 // refusal: the number of document 01's table, 0 where there is none.
 #[repr(C)]
@@ -44,7 +45,7 @@ fn step_a(zone: Zone, job: Job) -> Stepped
     ensures { λ r. ⌜ StepPromise zone job r ⌝ }
 {
     let sent = request::jespurla_request_a(zone, job.name, job.dhcid, job.family, job.address);
-    let next = answer::after_add(job, sent.answer);
+    let next = answer::after_add(job, job.count + 1, sent.answer);
     carried(sent, job, next)
 }
 
@@ -61,7 +62,7 @@ fn step_b(zone: Zone, job: Job) -> Stepped
         job.address,
         job.policy,
     );
-    let next = answer::after_add(job, sent.answer);
+    let next = answer::after_add(job, job.count + 1, sent.answer);
     carried(sent, job, next)
 }
 

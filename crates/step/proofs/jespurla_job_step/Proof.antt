@@ -1,8 +1,8 @@
 use mathlib.Core.Path.{sym, _∙_}
 use borrow.Author.Tests.{not-true, not-false}
 use borrow.Author.Needs.{needs}
-use Rattle.job.proofs.step.jespurla_job_step.Statement.{statement}
-use Rattle.job.proofs.step.jespurla_job_step.Tie as tie
+use Rattle.step.proofs.jespurla_job_step.Statement.{statement}
+use Rattle.step.proofs.jespurla_job_step.Tie as tie
 
 numbers-listed-requires : tie.Need-numbers-listed-requires
 numbers-listed-requires c κs = search needs

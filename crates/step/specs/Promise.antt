@@ -1,0 +1,29 @@
+-- What the step promises. Document 01, "Refusal numbers" and "Zone, requests and jobs".
+use mathlib.Core.Path.{_≡_}
+use mathlib.Core.Bool.{true, cond}
+use Prim.Native.Nat.{ℕ}
+use Rattle.places.specs.declared.survey.Zone.{Zone}
+use Rattle.places.specs.Meaning.{nameOf, isFull, formed}
+use Rattle.zone.specs.Meaning.{zoneOf}
+use Rattle.job.specs.declared.job.Job.{Job}
+use Rattle.job.specs.Jobs.{State, step}
+use Rattle.job.specs.Meaning.{argumentsOf, stageOf, atStage, numbersListed}
+use Rattle.step.specs.declared.Stepped.{Stepped}
+
+-- The zone's form, then the job's numbers, then its name.
+unfoldable pub stepRefusal : Zone → Job → ℕ
+stepRefusal z j = cond (formed z) (cond (numbersListed j) (cond (isFull (nameOf (j .name))) 0 11) 18) 17
+
+-- What the rules make of the job and the zone.
+abbrev pub stepOf : Zone → Job → State
+stepOf z j = step (argumentsOf j) (zoneOf z) (stageOf (j .stage) (j .count))
+
+-- A refused step hands back the very same zone and job. Any other hands back the rules' zone, in good form, at whichever places its names
+-- stand, and the same job at the rules' stage.
+pub record StepPromise (z : Zone) (j : Job) (r : Stepped) : Type 0 where
+  pub refusalIs : r .refusal ≡ stepRefusal z j
+  pub zoneKept : ¬ (stepRefusal z j ≡ 0) → r .zone ≡ z
+  pub jobKept : ¬ (stepRefusal z j ≡ 0) → r .job ≡ j
+  pub zoneIs : stepRefusal z j ≡ 0 → zoneOf (r .zone) ≡ stepOf z j .zone
+  pub formedAgain : stepRefusal z j ≡ 0 → formed (r .zone) ≡ true
+  pub jobIs : stepRefusal z j ≡ 0 → r .job ≡ atStage j (stepOf z j .stage)
