@@ -1,8 +1,8 @@
 -- A job at the stage that an answer leads it to, for the contracts of src/answer.rt. No promise of an exported call cites these.
-use mathlib.Core.Path.{_≡_}
+use mathlib.Core.Bool.{cond}
 use Prim.Native.Nat.{ℕ}
-use Rattle.zone.specs.Zone.{Answer}
-use Rattle.zone.specs.Promise.{numberOf}
+use lib.Dec.{eqb}
+use Rattle.zone.specs.Zone.{Answer, success, YXDOMAIN, NXDOMAIN, NXRRSET, noRoom}
 use Rattle.job.specs.declared.job.Job.{Job}
 use Rattle.job.specs.Jobs.{Stage}
 use Rattle.job.specs.Meaning.{atStage}
@@ -19,6 +19,11 @@ placed j stage count = record {
   address = j .address;
 }
 
--- An answer's number leads a job to the stage that the rule gives for the answer.
-abbrev pub Leads : Job → ℕ → (Answer → Stage) → Job → Type 0
-Leads j number rule r = (a : Answer) → number ≡ numberOf a → r ≡ atStage j (rule a)
+-- The answer that a number stands for; any number that is no answer's counts as that of NXDOMAIN.
+unfoldable pub answerOf : ℕ → Answer
+answerOf number =
+    cond (eqb number 0) success (cond (eqb number 6) YXDOMAIN (cond (eqb number 8) NXRRSET (cond (eqb number 256) noRoom NXDOMAIN)))
+
+-- The job at the stage that the rule gives for the answer.
+abbrev pub led : Job → (Answer → Stage) → ℕ → Job
+led j rule number = atStage j (rule (answerOf number))

@@ -2,7 +2,7 @@
 use crate::job::Job;
 ghost use mathlib.Core.Path.{_≡_};
 ghost use Rattle.job.specs.Jobs.{after, afterFirst, afterSecond};
-ghost use Rattle.job.specs.Inner.{placed, Leads};
+ghost use Rattle.job.specs.Inner.{placed, led};
 
 // The same job at another stage.
 fn moved(job: Job, stage: u8, count: u8) -> Job
@@ -16,7 +16,7 @@ fn moved(job: Job, stage: u8, count: u8) -> Job
 
 // An add, after request A or B. sent: its requests, the one just answered among them.
 pub fn after_add(job: Job, sent: u8, answer: u32) -> Job
-    ensures { λ r. ⌜ Leads job answer (after sent) r ⌝ }
+    ensures { λ r. ⌜ r ≡ led job (after sent) answer ⌝ }
 {
     if answer == 0 {
         return moved(job, 3, sent);
@@ -38,7 +38,7 @@ pub fn after_add(job: Job, sent: u8, answer: u32) -> Job
 
 // A remove, after its first request.
 pub fn after_first(job: Job, answer: u32) -> Job
-    ensures { λ r. ⌜ Leads job answer afterFirst r ⌝ }
+    ensures { λ r. ⌜ r ≡ led job afterFirst answer ⌝ }
 {
     if answer == 0 {
         return moved(job, 12, job.count);
@@ -48,7 +48,7 @@ pub fn after_first(job: Job, answer: u32) -> Job
 
 // A remove, after its second request.
 pub fn after_second(job: Job, answer: u32) -> Job
-    ensures { λ r. ⌜ Leads job answer afterSecond r ⌝ }
+    ensures { λ r. ⌜ r ≡ led job afterSecond answer ⌝ }
 {
     if answer == 0 {
         return moved(job, 14, job.count);

@@ -1,11 +1,11 @@
 -- The laws of the walk over an option area. Assumes nothing.
 use mathlib.Core.Path.{_≡_, refl, ap, sym, _∙_}
-use mathlib.Core.Bool.{Bool, true, false, _&&_, and-false, false≢true}
+use mathlib.Core.Bool.{Bool, true, false, _&&_, and-false}
 use mathlib.Core.List.{List, [], _∷_}
 use Prim.Native.Nat.{ℕ, zero, suc, _+_, _-_, _*_, _/_, _%_, _≤_, _<_, min}
 use native.Mathlib.Omega.{arith}
 use lib.Dec.{leb, eqb}
-use borrow.Author.Tests.{leb-true, leb-false, le-leb, lt-leb, eq-eqb, ne-eqb}
+use borrow.Author.Tests.{leb-true, le-leb, lt-leb, eq-eqb, ne-eqb}
 use lib.ListN.{length, take, drop, getD, length-drop, drop-of-length-le}
 use Rattle.serverlist.proofs.EntryLaws.{and-left, and-right}
 use native.Mathlib.Nat.{div-mul-le-self}
@@ -66,18 +66,6 @@ whole-long (t ∷ []) z h = refl
 whole-long (t ∷ zero ∷ s) z h = refl
 whole-long (t ∷ suc m ∷ s) z h = whole-short (6 + 8 * m) s (omega arith)
 
--- the option at the start of a whole area is there whole
-pub whole-fits : (w : List ℕ) → 0 < length w → isWhole 0 w ≡ true → (0 < lengthOf w * 8) × (lengthOf w * 8 ≤ length w)
-unfolding isWhole
-whole-fits [] z h = absurd (omega arith)
-whole-fits (t ∷ []) z h = absurd (false≢true h)
-whole-fits (t ∷ zero ∷ s) z h = absurd (false≢true h)
-whole-fits (t ∷ suc m ∷ s) z h = (omega arith, fits (leb (6 + 8 * m) (length s)) refl)
-  where
-    fits : (b : Bool) → leb (6 + 8 * m) (length s) ≡ b → suc m * 8 ≤ suc (suc (length s))
-    fits true e = omega (arith, leb-true (6 + 8 * m) (length s) e)
-    fits false e = absurd (false≢true (sym (whole-short (6 + 8 * m) s (leb-false (6 + 8 * m) (length s) e)) ∙ h))
-
 pub whole-end : isWhole 0 [] ≡ true
 unfolding isWhole
 whole-end = refl
@@ -112,11 +100,6 @@ count-fits u h = omega (arith, div-mul-le-self (u - 1) 2)
 module _ (area : List ℕ) (at n : ℕ) (e : n ≡ getD area (at + 1) 0 * 8) (h : at < length area) where
   length-at : n ≡ lengthOf (drop at area) * 8
   length-at = e ∙ ap (λ (x : ℕ). x * 8) (sym (getD-drop at area 1 0))
-
-  pub fits-at : isWhole 0 (drop at area) ≡ true → (0 < n) × (at + n ≤ length area)
-  fits-at w =
-      let f = whole-fits (drop at area) (omega (arith, length-drop at area)) w in
-      (omega (arith, length-at, f .0), omega (arith, length-at, f .1, length-drop at area))
 
   pub zero-at : n ≡ 0 → isWhole 0 (drop at area) ≡ false
   zero-at z = whole-zero (drop at area) (omega (arith, length-drop at area)) (sym length-at ∙ z)

@@ -92,14 +92,6 @@ module _ {E : Type 0} (p : E → Bool) where
   unfolding each
   each-cons e l h k = rw (h, k)
 
-  pub each-head : (e : E) (l : List E) → each p (e ∷ l) ≡ true → p e ≡ true
-  unfolding each
-  each-head e l h = and-left (p e) (each p l) h
-
-  pub each-tail : (e : E) (l : List E) → each p (e ∷ l) ≡ true → each p l ≡ true
-  unfolding each
-  each-tail e l h = and-right (p e) (each p l) h
-
 module _ {E : Type 0} (p q : E → Bool) where
   -- none passes p, and what does not pass p passes q
   pub each-else : (l : List E) → oneOf p l ≡ false → ((e : E) → p e ≡ false → q e ≡ true) → each q l ≡ true

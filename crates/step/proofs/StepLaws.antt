@@ -19,7 +19,8 @@ use Rattle.zone.proofs.PromiseLaws.{refusal-listed, says-17, not-17}
 use Rattle.job.specs.declared.job.Job.{Job}
 use Rattle.job.specs.Jobs.{Stage, ended, End, done, conflict, noRoom, gaveUp, notOurs, gone, kept, State, goesOn, after, afterFirst, afterSecond, step}
 use Rattle.job.specs.Meaning.{stageNumber, stageCount, stageOf, canHave, isAdd, argumentsOf, atStage, numbersListed}
-use Rattle.job.specs.Inner.{Leads}
+use Rattle.job.specs.Inner.{led}
+use Rattle.job.proofs.AnswerLaws.{answer-number}
 use Rattle.job.proofs.StageLaws.{each-among, can-a, can-b, can-nothing, can-low, can-remove}
 use Rattle.step.specs.declared.Stepped.{Stepped}
 use Rattle.step.specs.Promise.{stepRefusal, stepOf, StepPromise}
@@ -82,7 +83,7 @@ module _ (z : Zone) (j : Job) where
 
   pub step-kept : (p : ℕ) (o : Outcome) (rule : Answer → Stage) (sent : Answered) (next : Job) (r : Stepped)
       → numbersListed j ≡ true → listed (j .family) p ≡ true → stepOf z j ≡ goesOn o rule
-      → Promised z (refusalOf z (nameOf (j .name)) (j .family) p) o sent → Leads j (sent .answer) rule next → Carried sent j next r → StepPromise z j r
+      → Promised z (refusalOf z (nameOf (j .name)) (j .family) p) o sent → next ≡ led j rule (sent .answer) → Carried sent j next r → StepPromise z j r
   step-kept p o rule sent next r h l s m leads c = record {
     refusalIs = c .refusalIs ∙ k .refusalIs;
     zoneKept = λ n. c .zoneIs ∙ k .kept n;
@@ -90,7 +91,8 @@ module _ (z : Zone) (j : Job) where
     zoneIs = λ e. ap zoneOf (c .zoneIs) ∙ k .done e ∙ ap (λ (w : State). w .zone) (sym s);
     formedAgain = λ e. ap formed (c .zoneIs) ∙ k .formedAgain e;
     jobIs = λ e. c .jobIs ∙ ap (λ (b : Bool). cond b next j) (eq-eqb (sent .refusal) 0 (k .refusalIs ∙ e))
-        ∙ leads (o .answer) (k .answerIs ∙ ap (λ (b : Bool). cond b (numberOf (o .answer)) 0) (eq-eqb (stepRefusal z j) 0 e))
+        ∙ leads ∙ ap (led j rule) (k .answerIs ∙ ap (λ (b : Bool). cond b (numberOf (o .answer)) 0) (eq-eqb (stepRefusal z j) 0 e))
+        ∙ ap (λ (a : Answer). atStage j (rule a)) (answer-number (o .answer))
         ∙ ap (λ (w : State). atStage j (w .stage)) (sym s);
   }
     where

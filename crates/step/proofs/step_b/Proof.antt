@@ -1,5 +1,6 @@
-use Prim.Native.Nat.{_<_}
+use Prim.Native.Nat.{_+_, _<_}
 use native.Mathlib.Omega.{arith}
+use Rattle.job.specs.Jobs.{after}
 use Rattle.step.proofs.StepLaws.{count-b, numbers-policy, step-at-b, step-kept}
 use borrow.Author.Needs.{needs}
 use Rattle.step.proofs.step_b.Statement.{statement}
@@ -21,7 +22,7 @@ carried-requires : tie.Need-carried-requires
 carried-requires c κs = search needs
 
 returns : tie.Need-returns
-returns c = step-kept (c .before .before .before .before .args .zone) (c .before .before .before .before .args .job) (c .before .before .before .before .args .job .policy) _ _ (c .before .before .before .jespurla-request-b .result) (c .before .after-add .result) (c .carried .result) (c .before .before .before .before .pre .0) (numbers-policy (c .before .before .before .before .args .job) (c .before .before .before .before .pre .0) (c .before .before .before .before .pre .1)) (step-at-b (c .before .before .before .before .args .zone) (c .before .before .before .before .args .job) (c .before .before .before .before .pre .1)) (c .before .before .before .jespurla-request-b .ensures) (c .before .after-add .ensures) (c .carried .ensures)
+returns c = step-kept (c .before .before .before .before .args .zone) (c .before .before .before .before .args .job) (c .before .before .before .before .args .job .policy) _ (after (c .before .before .before .before .args .job .count + 1)) (c .before .before .before .jespurla-request-b .result) (c .before .after-add .result) (c .carried .result) (c .before .before .before .before .pre .0) (numbers-policy (c .before .before .before .before .args .job) (c .before .before .before .before .pre .0) (c .before .before .before .before .pre .1)) (step-at-b (c .before .before .before .before .args .zone) (c .before .before .before .before .args .job) (c .before .before .before .before .pre .1)) (c .before .before .before .jespurla-request-b .ensures) (c .before .after-add .ensures) (c .carried .ensures)
 
 pub step-b-spec : {M : Type 1} → statement M
 step-b-spec = tie.close (tie.spec jespurla-request-b-requires add-after-add after-add-requires carried-requires returns)

@@ -8,37 +8,37 @@ moved-requires : tie.Need-moved-requires
 moved-requires c κs = search needs
 
 returns : tie.Need-returns
-returns c = λ a q. c .moved .ensures ∙ leads-done _ _ _ (c .before .if1 .taken) a q
+returns c = c .moved .ensures ∙ leads-done _ _ _ (c .before .if1 .taken)
 
 moved-requires-2 : tie.Need-moved-requires-2
 moved-requires-2 c κs = search needs
 
 returns-2 : tie.Need-returns-2
-returns-2 c = λ a q. c .moved2 .ensures ∙ leads-b _ _ _ (c .before .if2 .taken) a q
+returns-2 c = c .moved2 .ensures ∙ leads-b _ _ _ (c .before .if2 .taken)
 
 moved-requires-3 : tie.Need-moved-requires-3
 moved-requires-3 c κs = search needs
 
 returns-3 : tie.Need-returns-3
-returns-3 c = λ a q. c .moved3 .ensures ∙ leads-conflict _ _ _ (c .before .if3 .taken) a q
+returns-3 c = c .moved3 .ensures ∙ leads-conflict _ _ _ (c .before .if3 .taken)
 
 moved-requires-4 : tie.Need-moved-requires-4
 moved-requires-4 c κs = search needs
 
 returns-4 : tie.Need-returns-4
-returns-4 c = λ a q. c .moved4 .ensures ∙ leads-no-room _ _ _ (c .before .if4 .taken) a q
+returns-4 c = c .moved4 .ensures ∙ leads-no-room _ _ _ (c .before .if4 .taken)
 
 moved-requires-5 : tie.Need-moved-requires-5
 moved-requires-5 c κs = search needs
 
 returns-5 : tie.Need-returns-5
-returns-5 c = λ a q. c .moved5 .ensures ∙ leads-gave-up _ _ _ (c .before .before .before .before .before .if1 .left) (c .before .before .before .before .if2 .left) (c .before .before .before .if3 .left) (c .before .before .if4 .left) (c .before .if5 .taken) a q
+returns-5 c = c .moved5 .ensures ∙ leads-gave-up _ _ _ (c .before .before .before .before .before .if1 .left) (c .before .before .before .before .if2 .left) (c .before .before .before .if3 .left) (c .before .before .if4 .left) (c .before .if5 .taken)
 
 moved-requires-6 : tie.Need-moved-requires-6
 moved-requires-6 c κs = search needs
 
 returns-6 : tie.Need-returns-6
-returns-6 c = λ a q. c .moved6 .ensures ∙ leads-a _ _ _ (c .before .before .before .before .before .if1 .left) (c .before .before .before .before .if2 .left) (c .before .before .before .if3 .left) (c .before .before .if4 .left) (c .before .if5 .left) a q
+returns-6 c = c .moved6 .ensures ∙ leads-a _ _ _ (c .before .before .before .before .before .if1 .left) (c .before .before .before .before .if2 .left) (c .before .before .before .if3 .left) (c .before .before .if4 .left) (c .before .if5 .left)
 
 pub after-add-spec : {M : Type 1} → statement M
 after-add-spec =
