@@ -1,6 +1,6 @@
 -- Moments on the clock and spans of seconds. Document 01 keeps them apart in every record; their types do here.
 use Prim.Native.Nat.{ℕ, _+_, _-_, min}
-use mathlib.Core.Bool.{Bool, true, false, cond, not, _&&_, _||_}
+use mathlib.Core.Bool.{Bool, cond, not, _&&_, _||_}
 use lib.Dec.{ltb, leb, eqb}
 use Rattle.clock.specs.declared.Moment.{Moment}
 use Rattle.clock.specs.declared.Span.{Span}

@@ -2,7 +2,7 @@
 use mathlib.Core.Path.{_≡_, refl, sym, ap, subst, _∙_}
 use mathlib.Core.Bool.{Bool, true, false, cond}
 use mathlib.Core.List.{List, [], _∷_, _++_}
-use Prim.Native.Nat.{ℕ, zero, suc, _+_, _≤_, _<_}
+use Prim.Native.Nat.{ℕ, zero, suc, _≤_, _<_}
 use native.Mathlib.Omega.{arith}
 use lib.Dec.{ltb, leb}
 use lib.ListN.{length, take, drop, length-drop, length-append, take-append-drop}
@@ -11,7 +11,7 @@ use borrow.Author.Tests.{ltb-true, leb-true, leb-false}
 use Rattle.dname.specs.Name.{labelsOf, limited, shapeOf}
 use Rattle.dname.specs.Grammar.{Label, Reads, root, field, label, FullName, PartialName}
 use Rattle.dname.specs.declared.Shape.{Shape}
-use Rattle.dname.specs.declared.Shape.the-variants.{Empty, Full, Partial, Malformed}
+use Rattle.dname.specs.declared.Shape.the-variants.{Full, Partial, Malformed}
 use Rattle.dname.proofs.NameLaws.{begun, skip, cut, limited-full, limited-partial}
 use Rattle.dname.proofs.CompletionLaws.{limited-is}
 

@@ -15,7 +15,7 @@ use Rattle.dname.proofs.Shape.{the-type}
 use Rattle.fqdn.specs.Flags.{flagAnswer}
 use Rattle.fqdn.specs.Answer.{byName, bySuffix, byFlags, byValue, answerOf, octetsOf, resultOf, Answered}
 use Rattle.fqdn.specs.declared.answer.NameAnswer.{NameAnswer}
-use Rattle.fqdn.specs.declared.answer.NameAnswer.the-variants.{Refused, Whole, Completed}
+use Rattle.fqdn.specs.declared.answer.NameAnswer.the-variants.{Refused, Completed}
 
 module _ (value suffix : List ℕ) (s n : ℕ) where
   pub room-short : (room : ℕ) → room < 256 → answerOf value suffix s n room ≡ Refused 14

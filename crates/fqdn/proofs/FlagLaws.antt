@@ -1,5 +1,5 @@
 -- The flag table as the code keeps it: octets, with 10 where it refuses.
-use mathlib.Core.Path.{_≡_, sym, _∙_}
+use mathlib.Core.Path.{_≡_, sym}
 use mathlib.Core.Bool.{cond}
 use mathlib.Core.List.{List, map}
 use Prim.Native.Nat.{ℕ, _+_, _*_, _%_, _≤_, min}

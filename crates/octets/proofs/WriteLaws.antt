@@ -1,12 +1,10 @@
 -- The laws by which writes compose. Assumes nothing.
 use Prim.Native.Nat.{ℕ, _+_, _≤_, _<_}
-use mathlib.Core.Bool.{cond}
 use mathlib.Core.List.{List, [], _∷_, _++_, append-assoc}
 use mathlib.Core.Path.{_≡_, refl, sym, ap, _∙_}
 use native.Mathlib.Omega.{arith}
 use native.Mathlib.Nat.{zero-add, add-zero}
 use native.Mathlib.Numerals.{add-one}
-use lib.Dec.{leb}
 use lib.ListN.{length, take, drop, getD, set, length-append, length-drop, take-append-drop, replicate, length-replicate, replicate-append-replicate}
 use lib.Seq.{drop-append-add, drop-drop, set-split, length-take-le, take-at, take-suc}
 use borrow.Author.Tests.{le-leb, lt-leb}

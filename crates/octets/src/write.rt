@@ -1,7 +1,6 @@
 // Octets written into a lent buffer from a place on. Each writer answers the place behind what it
 // wrote; where not all of it fits it writes nothing and answers the place it was given.
 use crate::number;
-ghost use mathlib.Core.Path.{_≡_};
 ghost use mathlib.Core.List.{[], _∷_};
 ghost use lib.ListN.{length, replicate};
 ghost use Prim.Native.Nat.{_+_, _≤_};

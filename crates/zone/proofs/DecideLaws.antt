@@ -1,14 +1,11 @@
 -- From a survey and the place found to what the rules say: each way out of a decision. Assumes nothing.
 use mathlib.Core.Path.{_≡_, refl, sym, _∙_, ap, fun-ext}
-use mathlib.Core.Bool.{Bool, true, false, cond, not, _&&_, and-false}
-use mathlib.Core.Option.{Option, none, some}
-use Prim.Native.Nat.{ℕ, _≤_, _<_}
+use mathlib.Core.Bool.{Bool, true, false, _&&_}
+use mathlib.Core.Option.{none, some}
+use Prim.Native.Nat.{ℕ, _<_}
 use native.Mathlib.Omega.{arith}
-use lib.Dec.{eqb}
 use borrow.Author.Tests.{ne-eqb}
-use lib.ListN.{length, getD, set}
 use Rattle.dname.specs.Name.{key}
-use Rattle.hosts.specs.Count.{Octets, distinct}
 use Rattle.places.specs.declared.name.Name.{Name}
 use Rattle.places.specs.declared.entry.Entry.{Entry}
 use Rattle.places.specs.declared.entry.Dhcid.{Dhcid}
@@ -18,13 +15,12 @@ use Rattle.places.specs.declared.survey.Survey.{Survey}
 use Rattle.zone.specs.declared.decide.Change.{Change}
 use Rattle.zone.specs.Zone as rules
 use Rattle.zone.specs.Zone.{Host, Update, put, Answer, success, YXDOMAIN, NXDOMAIN, NXRRSET, noRoom, Outcome, says, heldBy, empty, address, newHost, left, fits, requestA, requestB, removeAddress, removeName}
-use Rattle.places.specs.Meaning.{nameOf, isFull, used, keyOf, keys, inOrder, allInOrder, formed}
-use Rattle.zone.specs.Meaning.{hostOf, zoneOf, listed, policyOf, updateOf}
-use Rattle.zone.specs.Promise.{numberOf, refusalOf, Promised}
+use Rattle.places.specs.Meaning.{nameOf, used, keyOf, inOrder, formed}
+use Rattle.zone.specs.Meaning.{hostOf, zoneOf, policyOf, updateOf}
+use Rattle.zone.specs.Promise.{numberOf}
 use Rattle.places.specs.Survey.{Found}
-use Rattle.zone.specs.Inner.{requestOf, changed, Decided, Decides, Kept, Fresh, About, Joined, Parted, HasRoom}
+use Rattle.zone.specs.Inner.{requestOf, changed, Decided, Decides, Kept, Fresh}
 use Rattle.places.proofs.SurveyLaws.{blank}
-use Rattle.zone.proofs.HostLaws.{about}
 use Rattle.zone.proofs.ZoneLaws.{A-new, A-full, A-there, B-absent, B-other, B-full, B-done, remove-address-absent, remove-address-other, remove-address-own, remove-name-absent, remove-name-kept, remove-name-gone}
 use Rattle.zone.proofs.PlaceLaws.{found-order, found-host, found-changed, found-freed, not-found, free-written, free-room, no-room}
 

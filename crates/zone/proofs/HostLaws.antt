@@ -1,9 +1,9 @@
 -- The laws of what is written at one place: its sets, one family's or both. Assumes nothing.
 use mathlib.Core.Path.{_≡_, refl, sym, _∙_, ap, fun-ext}
-use mathlib.Core.Bool.{Bool, true, false, cond, _&&_, _||_}
+use mathlib.Core.Bool.{Bool, true, false, cond, _||_}
 use mathlib.Core.List.{List, [], _∷_}
-use mathlib.Core.Option.{Option, none, some}
-use Prim.Native.Nat.{ℕ, zero, suc, _≤_}
+use mathlib.Core.Option.{none, some}
+use Prim.Native.Nat.{ℕ, _≤_}
 use native.Mathlib.Omega.{arith}
 use lib.Dec.{eqb, leb, ltb}
 use lib.ListN.{length, getD, take}
@@ -19,7 +19,7 @@ use Rattle.places.specs.declared.entry.Entry.{Entry}
 use Rattle.places.specs.declared.entry.Address.{Address}
 use Rattle.places.specs.declared.entry.Dhcid.{Dhcid}
 use Rattle.places.specs.declared.name.Name.{Name}
-use Rattle.zone.specs.Zone.{Host, Update, isFamily, heldBy, with, ownFamily, address, fits, left, newHost}
+use Rattle.zone.specs.Zone.{Host, Update, isFamily, heldBy, with, address, fits, left, newHost}
 use Rattle.places.specs.Meaning.{nameOf, isFull, inOrder}
 use Rattle.zone.specs.Meaning.{listOf, hostOf, familyOf, policyOf, addressOf, updateOf}
 use Rattle.zone.specs.Inner.{Kept, Fresh, Joined, About, emptied}

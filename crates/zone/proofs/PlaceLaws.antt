@@ -11,9 +11,8 @@ use borrow.Author.Tests.{not-true, not-false, eqb-true, eq-eqb}
 use Rattle.octets.specs.Compare.{sameOctets}
 use Rattle.octets.proofs.CompareLaws.{same-true}
 use Rattle.dname.specs.Name.{key, sameName}
-use Rattle.dname.proofs.NameLaws.{same-name-key, key-same-name}
-use Rattle.hosts.specs.Count.{Octets, member, distinct, Counts}
-use Rattle.hosts.specs.Addresses.{Family, four, six, list4, list6, sound}
+use Rattle.hosts.specs.Count.{Octets, member, distinct}
+use Rattle.hosts.specs.Addresses.{Family, four, six}
 use Rattle.hosts.proofs.CountLaws.{true≢false, bool-case, and-left, and-right, same-yes, same-no, same-dec, counts-list, distinct-head, distinct-rest, distinct-cons}
 use Rattle.hosts.proofs.SetLaws.{sound-few, sound-once}
 use Rattle.places.specs.declared.name.Name.{Name}
@@ -24,7 +23,7 @@ use Rattle.zone.specs.Zone.{Host, there, GoodHost, Form, put}
 use Rattle.places.specs.Meaning.{nameOf, used, keyOf, keys, inOrder, allInOrder, formed}
 use Rattle.zone.specs.Meaning.{listOf, hostOf, look, zoneOf}
 use Rattle.places.specs.Survey.{named, placeFrom}
-use Rattle.zone.proofs.HostLaws.{Order, order-parts}
+use Rattle.zone.proofs.HostLaws.{order-parts}
 use Rattle.zone.proofs.ZoneLaws.{some≢none, zone-eq, named-put, put-size}
 
 -- ---- the form of the structs, and what it gives

@@ -1,15 +1,15 @@
 -- The refusals in their order, and what a call's promise is made of. Assumes nothing.
 use mathlib.Core.Path.{_≡_, refl, sym, _∙_, ap}
-use mathlib.Core.Bool.{Bool, true, false, cond, not, _&&_, and-false}
+use mathlib.Core.Bool.{Bool, true, false, cond, _&&_, and-false}
 use mathlib.Core.List.{List}
 use Prim.Native.Nat.{ℕ, _≤_, _<_}
 use native.Mathlib.Omega.{arith}
-use lib.Dec.{eqb, leb, ltb}
+use lib.Dec.{eqb, ltb}
 use lib.ListN.{length}
 use lib.Seq.{set-out}
 use borrow.Author.Tests.{eq-eqb, ne-eqb, le-leb, lt-leb, ltb-true, ltb-false}
 use Rattle.hosts.specs.Count.{Octets, distinct}
-use Rattle.hosts.proofs.CountLaws.{true≢false, bool-case}
+use Rattle.hosts.proofs.CountLaws.{bool-case}
 use Rattle.places.specs.declared.entry.Entry.{Entry}
 use Rattle.places.specs.declared.survey.Zone.{Zone}
 use Rattle.places.specs.declared.survey.Survey.{Survey}

@@ -1,21 +1,20 @@
 -- The theorems beyond the promises: what every request leaves alone, what it leaves behind, and when it says no room. Assumes nothing.
 use mathlib.Core.Path.{_≡_, refl, sym, _∙_, ap, subst, fun-ext}
-use mathlib.Core.Bool.{Bool, true, false, cond, _&&_}
+use mathlib.Core.Bool.{true, false, _&&_}
 use mathlib.Core.List.{List, [], _∷_}
 use mathlib.Core.Option.{Option, none, some}
-use Prim.Native.Nat.{ℕ, _≤_, _<_}
+use Prim.Native.Nat.{ℕ, _≤_}
 use native.Mathlib.Omega.{arith}
 use lib.Dec.{ltb}
 use lib.ListN.{length}
 use borrow.Author.Tests.{ltb-true, ltb-false}
 use Rattle.dname.specs.Name.{key}
 use Rattle.hosts.specs.Count.{Octets, distinct}
-use Rattle.hosts.specs.Addresses.{nothing}
-use Rattle.hosts.proofs.CountLaws.{true≢false, bool-case, distinct-nil}
+use Rattle.hosts.proofs.CountLaws.{bool-case, distinct-nil}
 use Rattle.places.specs.declared.entry.Entry.{Entry}
 use Rattle.places.specs.declared.survey.Zone as place
-use Rattle.zone.specs.Zone.{Host, Zone, GoodHost, Form, put, Update, Policy, Answer, success, YXDOMAIN, NXDOMAIN, NXRRSET, noRoom, Outcome, says, atName, heldBy, empty, address, newHost, left, fits, requestA, requestB, removeAddress, removeName}
-use Rattle.places.specs.Meaning.{used, keys, inOrder, allInOrder, formed}
+use Rattle.zone.specs.Zone.{Host, Zone, Form, put, Update, Policy, Answer, success, YXDOMAIN, NXDOMAIN, NXRRSET, noRoom, Outcome, says, atName, heldBy, empty, address, newHost, left, fits, requestA, requestB, removeAddress, removeName}
+use Rattle.places.specs.Meaning.{used, keys, allInOrder, formed}
 use Rattle.zone.specs.Meaning.{look, zoneOf}
 use Rattle.zone.proofs.ZoneLaws.{option-case, put-at, put-off, good-add, good-remove, good-left, good-new, form-new, form-change, form-delete, A-new, A-full, A-there, B-absent, B-other, B-full, B-done, remove-address-absent, remove-address-other, remove-address-own, remove-name-absent, remove-name-kept, remove-name-gone}
 use Rattle.zone.proofs.PlaceLaws.{None, formed-all}

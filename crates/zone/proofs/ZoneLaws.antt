@@ -1,19 +1,19 @@
 -- The laws of the zone and its requests: all that a layer above needs of them. Assumes nothing.
 use mathlib.Core.Path.{_≡_, refl, sym, _∙_, ap, subst, fun-ext}
-use mathlib.Core.Bool.{Bool, true, false, cond, not, _&&_, _||_, and-false}
+use mathlib.Core.Bool.{Bool, true, false, cond, _&&_, _||_}
 use mathlib.Core.Option.{Option, none, some}
 use Prim.Native.Nat.{ℕ, _+_, _-_, _≤_, _<_}
 use native.Mathlib.Omega.{arith}
-use lib.Dec.{eqb, ltb}
-use borrow.Author.Tests.{ltb-true, ltb-false, lt-ltb, le-ltb, eqb-true, ne-eqb}
+use lib.Dec.{ltb}
+use borrow.Author.Tests.{ltb-true, lt-ltb, le-ltb}
 use Rattle.octets.specs.Compare.{sameOctets}
 use Rattle.octets.proofs.CompareLaws.{same-self, same-true}
 use Rattle.dname.specs.Name.{key}
 use Rattle.hosts.specs.Count.{Octets, Counts}
 use Rattle.hosts.specs.Addresses.{Family, four, six, Addresses, nothing, one, mark}
-use Rattle.hosts.proofs.CountLaws.{true≢false, bool-case, and-left, and-right, same-yes, same-no, same-dec, counts-le, counts-eq, counts-none, counts-nothing, counts-ext, counts-mark}
+use Rattle.hosts.proofs.CountLaws.{true≢false, same-no, same-dec, counts-eq, counts-nothing, counts-ext, counts-mark}
 use Rattle.hosts.proofs.SetLaws.{set-eq}
-use Rattle.zone.specs.Zone.{Host, Zone, there, GoodHost, Form, isFamily, with, put, Update, Policy, keepOthers, oneOfFamily, onlyThis, Answer, success, YXDOMAIN, NXDOMAIN, NXRRSET, noRoom, Outcome, says, atName, ownFamily, heldBy, empty, address, newHost, requestA, left, fits, writeB, requestB, removeAddress, removeName}
+use Rattle.zone.specs.Zone.{Host, Zone, there, GoodHost, Form, isFamily, with, put, Update, Policy, keepOthers, oneOfFamily, onlyThis, success, YXDOMAIN, NXDOMAIN, NXRRSET, noRoom, says, atName, ownFamily, heldBy, empty, address, newHost, requestA, left, fits, writeB, requestB, removeAddress, removeName}
 
 pub some≢none : {A : Type 0} {a : A} → _≡_ {A = Option A} (some a) none → ⊥
 some≢none {a = a} e = let z : _≡_ {A = ℕ} 0 1 = cc in omega arith

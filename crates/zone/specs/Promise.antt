@@ -1,6 +1,6 @@
 -- What each public call promises. Document 01, "Refusal numbers" and "Zone, requests and jobs".
 use mathlib.Core.Path.{_≡_}
-use mathlib.Core.Bool.{Bool, true, false, cond}
+use mathlib.Core.Bool.{true, cond}
 use Prim.Native.Nat.{ℕ}
 use lib.Dec.{eqb}
 use Rattle.hosts.specs.Count.{Octets}

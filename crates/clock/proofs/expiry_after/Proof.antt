@@ -1,6 +1,6 @@
 use Prim.Native.Nat.{_+_, min}
 use borrow.Author.Tests.{eq-eqb, ne-eqb}
-use mathlib.Core.Path.{_≡_, ap, sym}
+use mathlib.Core.Path.{_≡_, ap}
 use native.Mathlib.Omega.{arith}
 use Rattle.clock.specs.Clock.{expiryAfter, moment, latest}
 use borrow.Author.Needs.{needs}

@@ -1,11 +1,10 @@
-use mathlib.Core.Path.{_≡_, sym, ap, subst, _∙_}
+use mathlib.Core.Path.{ap, subst, _∙_}
 use Prim.Native.Nat.{_+_, _-_}
 use native.Mathlib.Omega.{arith}
 use lib.ListN.{length, getD, take, drop}
 use borrow.Author.Needs.{needs}
 use denote.Ref.{now}
-use Rattle.dname.specs.Name.{labelsOf}
-use Rattle.dname.specs.Reading.{Passed, number}
+use Rattle.dname.specs.Reading.{number}
 use Rattle.dname.proofs.NameLaws.{part-shorter}
 use Rattle.dname.proofs.ReadingLaws.{passed-more, ends-field, ends-root, ends-early, ends-long, ends-cut, goes-on}
 use Prim.Native.Nat.{ℕ, _<_}

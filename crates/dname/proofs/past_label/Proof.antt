@@ -4,8 +4,6 @@ use Rattle.dname.proofs.ReadingLaws.{passed-label}
 use borrow.Author.Needs.{needs}
 use Rattle.dname.proofs.past_label.Statement.{statement}
 use Rattle.dname.proofs.past_label.Tie as tie
-use Rattle.dname.proofs.past_label.Reads as reads
-use Rattle.dname.proofs.past_label.Lts as lts
 
 returns : tie.Need-returns
 returns c = search needs

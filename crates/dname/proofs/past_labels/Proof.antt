@@ -2,9 +2,6 @@ use Rattle.dname.proofs.ReadingLaws.{passed-more}
 use borrow.Author.Needs.{needs}
 use Rattle.dname.proofs.past_labels.Statement.{statement}
 use Rattle.dname.proofs.past_labels.Tie as tie
-use Rattle.dname.proofs.past_labels.Reads as reads
-use Rattle.dname.proofs.past_labels.Lts as lts
-use Rattle.dname.proofs.past_label.Reads as past-label-reads
 
 past-label-requires : tie.Need-past-label-requires
 past-label-requires c κs = search needs

@@ -6,15 +6,11 @@ use lib.ListN.{length}
 use borrow.Author.Needs.{needs}
 use denote.Ref.{now}
 use Rattle.dname.specs.Name.{labelsOf, limited, shapeOf}
-use Rattle.dname.specs.Reading.{number}
 use Rattle.dname.specs.declared.Shape.{Shape}
 use Rattle.dname.proofs.NameLaws.{shape-empty, shape-root, shape-over, shape-limited, limited-full, limited-partial, partial-over}
 use Rattle.dname.proofs.ReadingLaws.{is-full, is-partial, is-neither}
 use Rattle.dname.proofs.shape_of.Statement.{statement}
 use Rattle.dname.proofs.shape_of.Tie as tie
-use Rattle.dname.proofs.shape_of.Reads as reads
-use Rattle.dname.proofs.shape_of.Lts as lts
-use Rattle.dname.proofs.labels.Reads as labels-reads
 
 -- what the labels make of a field that passed the tests before them
 abbrev field-of : tie.After-labels → List ℕ

@@ -10,10 +10,6 @@ use Rattle.rdnss.proofs.CallLaws.{refused-31, refused-15, refused-16, a
 use borrow.Author.Needs.{needs}
 use Rattle.rdnss.proofs.jespurla_server_list.Statement.{statement}
 use Rattle.rdnss.proofs.jespurla_server_list.Tie as tie
-use Rattle.rdnss.proofs.jespurla_server_list.Reads as reads
-use Rattle.rdnss.proofs.jespurla_server_list.Lts as lts
-use Rattle.rdnss.proofs.area.apply_all.Reads as apply-all-reads
-use Rattle.rdnss.proofs.refused.Reads as refused-reads
 
 sound : (c : tie.Else1) → isSound (c .before .before .before .args .list) ≡ true
 sound c = sym (c .before .is-sound .ensures) ∙ not-false _ (c .if1 .left)

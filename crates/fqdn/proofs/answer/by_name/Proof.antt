@@ -1,4 +1,4 @@
-use mathlib.Core.Path.{_≡_, sym}
+use mathlib.Core.Path.{sym}
 use Rattle.fqdn.specs.Answer.{byName}
 use Rattle.fqdn.proofs.AnswerLaws.{name-over, name-completed}
 use borrow.Author.Needs.{needs}

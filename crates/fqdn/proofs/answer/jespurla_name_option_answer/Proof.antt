@@ -1,9 +1,7 @@
-use mathlib.Core.Path.{_≡_, refl, sym, ap, subst, _∙_}
-use mathlib.Core.List.{List, _∷_, _++_, append-nil}
-use Prim.Native.Nat.{ℕ}
+use mathlib.Core.Path.{_≡_, refl, sym, _∙_}
+use mathlib.Core.List.{_∷_, append-nil}
 use lib.ListN.{length, drop}
 use denote.Ref.{now}
-use Rattle.octets.specs.Write.{laid}
 use Rattle.octets.proofs.WriteLaws.{laid-nothing}
 use Rattle.fqdn.specs.Answer.{answerOf, octetsOf, resultOf, Put}
 use Rattle.fqdn.specs.declared.answer.NameAnswer.the-variants.{Refused, Whole, Completed}

@@ -1,10 +1,8 @@
 use Rattle.fqdn.proofs.RoomLaws.{octets-length}
-use Prim.Native.Nat.{_-_}
-use mathlib.Core.Path.{_≡_, sym, ap, _∙_}
-use mathlib.Core.List.{List, [], _∷_, _++_}
-use Prim.Native.Nat.{ℕ, _+_, _≤_}
+use mathlib.Core.Path.{_∙_}
+use mathlib.Core.List.{_∷_, _++_}
 use native.Mathlib.Omega.{arith}
-use lib.ListN.{length, drop, length-append, length-drop}
+use lib.ListN.{drop}
 use denote.Ref.{now}
 use Rattle.octets.specs.Write.{WroteIf, Wrote}
 use Rattle.octets.proofs.WriteLaws.{written, more, put-front}

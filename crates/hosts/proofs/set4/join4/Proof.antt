@@ -1,8 +1,6 @@
-use mathlib.Core.Path.{_≡_, refl, sym, _∙_, ap}
-use Prim.Native.Nat.{ℕ, _≤_, _<_}
+use mathlib.Core.Path.{_≡_, sym, _∙_, ap}
 use native.Mathlib.Omega.{arith}
 use lib.ListN.{length}
-use mathlib.Core.List.{[]}
 use Rattle.hosts.specs.Count.{Octets}
 use Rattle.hosts.specs.Addresses.{list4}
 use Rattle.hosts.specs.declared.set4.Addr4.{Addr4}

@@ -1,4 +1,4 @@
-use mathlib.Core.Path.{_≡_, sym, _∙_}
+use mathlib.Core.Path.{sym, _∙_}
 use Rattle.hosts.proofs.SetLaws.{sound-many, sound-rest}
 use borrow.Author.Needs.{needs}
 use Rattle.hosts.proofs.set4.sound4.Statement.{statement}

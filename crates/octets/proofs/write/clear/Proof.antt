@@ -2,7 +2,6 @@ use Prim.Native.Nat.{ℕ, _-_, _≤_}
 use mathlib.Core.Path.{_≡_, refl, sym, ap, _∙_}
 use lib.ListN.{length, replicate, length-set, length-replicate}
 use native.Mathlib.Omega.{arith}
-use borrow.Author.Needs.{needs}
 use Rattle.octets.specs.Write.{put}
 use Rattle.octets.proofs.WriteLaws.{put-nil, clear-more}
 use Rattle.octets.proofs.write.clear.Statement.{statement}

@@ -3,7 +3,6 @@ use mathlib.Core.Path.{_≡_, refl, sym, ap, _∙_}
 use lib.ListN.{length, take, length-set}
 use lib.Seq.{take-all}
 use native.Mathlib.Omega.{arith}
-use borrow.Author.Needs.{needs}
 use Rattle.octets.specs.Write.{put}
 use Rattle.octets.proofs.WriteLaws.{put-nil, copy-more}
 use Rattle.octets.proofs.write.copy.Statement.{statement}

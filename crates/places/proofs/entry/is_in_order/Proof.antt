@@ -1,4 +1,3 @@
-use mathlib.Core.Path.{_≡_, refl}
 use borrow.Author.Tests.{le-leb, lt-leb, not-true, not-false}
 use Rattle.places.proofs.entry.is_in_order.Statement.{statement}
 use Rattle.places.proofs.entry.is_in_order.Tie as tie

@@ -1,6 +1,4 @@
-use mathlib.Core.Path.{_≡_, sym, _∙_, ap}
-use native.Mathlib.Omega.{arith}
-use lib.ListN.{length}
+use mathlib.Core.Path.{sym, _∙_, ap}
 use Rattle.places.specs.Meaning.{full, isFull}
 use Rattle.places.proofs.PrintLaws.{prefix-length}
 use borrow.Author.Needs.{needs}

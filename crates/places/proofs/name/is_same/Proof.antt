@@ -1,4 +1,4 @@
-use mathlib.Core.Path.{_≡_, sym, _∙_}
+use mathlib.Core.Path.{sym, _∙_}
 use lib.ListN.{take}
 use Rattle.places.proofs.PrintLaws.{print-differ}
 use borrow.Author.Needs.{needs}

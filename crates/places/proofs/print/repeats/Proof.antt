@@ -1,10 +1,10 @@
 use mathlib.Core.Path.{_≡_, refl, sym, _∙_, ap}
 use mathlib.Core.Bool.{Bool, true, false, _||_}
-use Prim.Native.Nat.{ℕ, _≤_, _<_, _-_, _+_}
+use Prim.Native.Nat.{_≤_, _-_, _+_}
 use native.Mathlib.Omega.{arith}
-use lib.ListN.{length, drop, getD}
+use lib.ListN.{length, drop}
 use borrow.Author.Needs.{needs}
-use Rattle.places.specs.Survey.{among, repeated}
+use Rattle.places.specs.Survey.{repeated}
 use Rattle.places.proofs.PrintLaws.{repeated-step, repeated-end, raised, left-alone, flag-end}
 use Rattle.places.proofs.print.repeats.Statement.{statement}
 use Rattle.places.proofs.print.repeats.Tie as tie

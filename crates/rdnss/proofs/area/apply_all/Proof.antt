@@ -18,9 +18,6 @@ use Rattle.rdnss.proofs.AreaLaws.{whole-at, zero-at, long-at, whole-out
 use Rattle.rdnss.proofs.CallLaws.{option-fits}
 use Rattle.rdnss.proofs.area.apply_all.Statement.{statement}
 use Rattle.rdnss.proofs.area.apply_all.Tie as tie
-use Rattle.rdnss.proofs.area.apply_all.Reads as reads
-use Rattle.rdnss.proofs.area.apply_all.Lts as lts
-use Rattle.rdnss.proofs.option.apply.Reads as apply-reads
 
 abbrev Inv-loop : tie.InvT-loop
 Inv-loop area clock m₀ at₀ m at =

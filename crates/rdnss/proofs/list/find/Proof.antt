@@ -9,10 +9,6 @@ use Rattle.serverlist.proofs.ChainLaws.{Missed, missed-none, miss, hit}
 use borrow.Author.Needs.{needs}
 use Rattle.rdnss.proofs.list.find.Statement.{statement}
 use Rattle.rdnss.proofs.list.find.Tie as tie
-use Rattle.rdnss.proofs.list.find.Reads as reads
-use Rattle.rdnss.proofs.list.find.Lts as lts
-use Rattle.rdnss.proofs.list.find_behind.Reads as find-behind-reads
-use Rattle.rdnss.proofs.list.is_here.Reads as is-here-reads
 
 room : (c : tie.After-is-here) → c .before .before .args .t1 .count ≤ length (c .before .before .args .t1 .entries)
 room c =

@@ -9,9 +9,6 @@ use Rattle.serverlist.proofs.ChainLaws.{Missed, missed-behind, miss, hit, misse
 use borrow.Author.Needs.{needs}
 use Rattle.rdnss.proofs.list.find_behind.Statement.{statement}
 use Rattle.rdnss.proofs.list.find_behind.Tie as tie
-use Rattle.rdnss.proofs.list.find_behind.Reads as reads
-use Rattle.rdnss.proofs.list.find_behind.Lts as lts
-use Rattle.rdnss.proofs.list.is_here.Reads as is-here-reads
 
 room : (c : tie.After-is-here) → c .before .before .args .t1 .count ≤ length (c .before .before .args .t1 .entries)
 room c =

@@ -1,11 +1,8 @@
-use mathlib.Core.Path.{_∙_, sym}
 use native.Mathlib.Omega.{arith}
 use borrow.Author.Tests.{lt-ltb, le-ltb}
 use borrow.Author.Needs.{needs}
 use Rattle.rdnss.proofs.list.is_here.Statement.{statement}
 use Rattle.rdnss.proofs.list.is_here.Tie as tie
-use Rattle.rdnss.proofs.list.is_here.Reads as reads
-use Rattle.rdnss.proofs.list.is_here.Lts as lts
 
 returns : tie.Need-returns
 returns c = simp (le-ltb _ _ (c .if1 .taken))

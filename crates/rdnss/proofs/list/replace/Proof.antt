@@ -5,12 +5,10 @@ use lib.ListN.{length, length-set}
 use borrow.Author.Needs.{needs}
 use Rattle.serverlist.specs.Servers.{held, blank}
 use Rattle.serverlist.specs.Places.{insertAt, removeAt}
-use Rattle.serverlist.proofs.PlaceLaws.{fill, fill-full, back-more, back-out, inserted-length, removed-length}
+use Rattle.serverlist.proofs.PlaceLaws.{fill-full, back-more, back-out, inserted-length, removed-length}
 use Rattle.serverlist.proofs.PackLaws.{packs, held-length, held-fill, full-length}
 use Rattle.rdnss.proofs.list.replace.Statement.{statement}
 use Rattle.rdnss.proofs.list.replace.Tie as tie
-use Rattle.rdnss.proofs.list.replace.Reads as reads
-use Rattle.rdnss.proofs.list.replace.Lts as lts
 
 abbrev Inv-loop : tie.InvT-loop
 Inv-loop k out m₀ carried₀ i₀ m carried i = (length (m .entries) ≡ 8) × (m .clock ≡ m₀ .clock) × (m .count ≡ m₀ .count) × (k ≤ i) × (i ≤ out) × (insertAt i carried (m .entries) ≡ insertAt k carried₀ (m₀ .entries))

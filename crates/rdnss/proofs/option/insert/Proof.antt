@@ -6,16 +6,10 @@ use Rattle.serverlist.specs.Servers.{servers, held, packed}
 use Rattle.serverlist.specs.Places.{removeAt, evictPlace}
 use Rattle.serverlist.proofs.PackLaws.{packed-held, of-clock, held-full}
 use Rattle.rdnss.specs.Places.{Holds, marks}
-use Rattle.rdnss.specs.declared.option.Placed.{Placed}
 use Rattle.rdnss.proofs.OptionLaws.{room-left, evict-within, own-evicted, other-evicted, room-made, put-in}
 use borrow.Author.Needs.{needs}
 use Rattle.rdnss.proofs.option.insert.Statement.{statement}
 use Rattle.rdnss.proofs.option.insert.Tie as tie
-use Rattle.rdnss.proofs.option.insert.Reads as reads
-use Rattle.rdnss.proofs.option.insert.Lts as lts
-use Rattle.rdnss.proofs.list.insert_at.Reads as insert-at-reads
-use Rattle.rdnss.proofs.list.remove_at.Reads as remove-at-reads
-use Rattle.rdnss.proofs.list.replace.Reads as replace-reads
 
 -- the place of the entry that is evicted
 evicts : (c : tie.After-evict-place) → c .evict-place .result ≡ evictPlace servers (held (c .before .before .before .before .args .p .list))

@@ -17,11 +17,6 @@ use Rattle.rdnss.specs.declared.option.Placed.{Placed}
 use Rattle.rdnss.proofs.OptionLaws.{found, missing, addresses-start, addresses-more, addresses-end}
 use Rattle.rdnss.proofs.option.name_all.Statement.{statement}
 use Rattle.rdnss.proofs.option.name_all.Tie as tie
-use Rattle.rdnss.proofs.option.name_all.Reads as reads
-use Rattle.rdnss.proofs.option.name_all.Lts as lts
-use Rattle.rdnss.proofs.list.find.Reads as find-reads
-use Rattle.rdnss.proofs.option.address_at.Reads as address-at-reads
-use Rattle.rdnss.proofs.option.insert.Reads as insert-reads
 
 abbrev Inv-loop : tie.InvT-loop
 Inv-loop v n x m₀ own₀ j₀ m own j =

@@ -14,11 +14,6 @@ use Rattle.rdnss.specs.Area.{addressesFrom}
 use Rattle.rdnss.proofs.OptionLaws.{addresses-start, addresses-more, addresses-end, withdrawn, nothing-to-withdraw, withdrawn-places, withdrawn-held, withdrawn-clock}
 use Rattle.rdnss.proofs.option.withdraw_all.Statement.{statement}
 use Rattle.rdnss.proofs.option.withdraw_all.Tie as tie
-use Rattle.rdnss.proofs.option.withdraw_all.Reads as reads
-use Rattle.rdnss.proofs.option.withdraw_all.Lts as lts
-use Rattle.rdnss.proofs.list.find.Reads as find-reads
-use Rattle.rdnss.proofs.list.remove_at.Reads as remove-at-reads
-use Rattle.rdnss.proofs.option.address_at.Reads as address-at-reads
 
 abbrev Inv-loop : tie.InvT-loop
 Inv-loop v n m₀ j₀ m j =

@@ -2,8 +2,6 @@ use native.Mathlib.Omega.{arith}
 use borrow.Author.Tests.{lt-leb, le-leb}
 use Rattle.serverlist.proofs.eviction.earlier.Statement.{statement}
 use Rattle.serverlist.proofs.eviction.earlier.Tie as tie
-use Rattle.serverlist.proofs.eviction.earlier.Reads as reads
-use Rattle.serverlist.proofs.eviction.earlier.Lts as lts
 
 returns : tie.Need-returns
 returns c =

@@ -10,9 +10,6 @@ use Rattle.serverlist.proofs.ChainLaws.{Foremost, foremost-last, foremo
 use borrow.Author.Needs.{needs}
 use Rattle.serverlist.proofs.eviction.evict_place.Statement.{statement}
 use Rattle.serverlist.proofs.eviction.evict_place.Tie as tie
-use Rattle.serverlist.proofs.eviction.evict_place.Reads as reads
-use Rattle.serverlist.proofs.eviction.evict_place.Lts as lts
-use Rattle.serverlist.proofs.eviction.earlier.Reads as earlier-reads
 
 -- what is read at a place
 at-place : (l : ServerList) (i : ℕ) (d : Server) → length (l .entries) ≡ 8 → i < 8 → getD (l .entries) i d ≡ getD (l .entries) i blank

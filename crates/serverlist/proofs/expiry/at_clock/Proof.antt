@@ -1,4 +1,4 @@
-use mathlib.Core.Path.{_≡_, _∙_, sym, refl}
+use mathlib.Core.Path.{_≡_, sym, refl}
 use native.Mathlib.Omega.{arith}
 use lib.ListN.{length, length-map}
 use lib.Seq.{length-take-le}
@@ -8,9 +8,6 @@ use Rattle.serverlist.proofs.ChainLaws.{eight}
 use borrow.Author.Needs.{needs}
 use Rattle.serverlist.proofs.expiry.at_clock.Statement.{statement}
 use Rattle.serverlist.proofs.expiry.at_clock.Tie as tie
-use Rattle.serverlist.proofs.expiry.at_clock.Reads as reads
-use Rattle.serverlist.proofs.expiry.at_clock.Lts as lts
-use Rattle.serverlist.proofs.expiry.held_or_blank.Reads as held-or-blank-reads
 
 element-copy-out-held-or-blank : tie.Need-element-copy-out-held-or-blank
 element-copy-out-held-or-blank c = search needs

@@ -1,8 +1,6 @@
 use borrow.Author.Tests.{lt-ltb, le-ltb}
 use Rattle.serverlist.proofs.expiry.held_or_blank.Statement.{statement}
 use Rattle.serverlist.proofs.expiry.held_or_blank.Tie as tie
-use Rattle.serverlist.proofs.expiry.held_or_blank.Reads as reads
-use Rattle.serverlist.proofs.expiry.held_or_blank.Lts as lts
 
 returns : tie.Need-returns
 returns c = simp (lt-ltb _ _ (c .if1 .taken))

@@ -12,9 +12,6 @@ use Rattle.serverlist.proofs.ChainLaws.{Missed, missed-none, miss, hit-
 use borrow.Author.Needs.{needs}
 use Rattle.serverlist.proofs.expiry.is_any_gone.Statement.{statement}
 use Rattle.serverlist.proofs.expiry.is_any_gone.Tie as tie
-use Rattle.serverlist.proofs.expiry.is_any_gone.Reads as reads
-use Rattle.serverlist.proofs.expiry.is_any_gone.Lts as lts
-use Rattle.serverlist.proofs.expiry.is_gone.Reads as is-gone-reads
 
 room : (c : tie.After-is-gone) → c .before .before .args .t1 .count ≤ length (c .before .before .args .t1 .entries)
 room c =

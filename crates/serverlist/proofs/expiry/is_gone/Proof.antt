@@ -3,9 +3,6 @@ use borrow.Author.Tests.{lt-ltb, le-ltb}
 use borrow.Author.Needs.{needs}
 use Rattle.serverlist.proofs.expiry.is_gone.Statement.{statement}
 use Rattle.serverlist.proofs.expiry.is_gone.Tie as tie
-use Rattle.serverlist.proofs.expiry.is_gone.Reads as reads
-use Rattle.serverlist.proofs.expiry.is_gone.Lts as lts
-use Rattle.serverlist.proofs.entry.is_expired.Reads as is-expired-reads
 
 returns : tie.Need-returns
 returns c = simp (le-ltb _ _ (c .if1 .taken))

@@ -1,4 +1,4 @@
-use mathlib.Core.Path.{_≡_, subst}
+use mathlib.Core.Path.{subst}
 use Rattle.zone.specs.Zone.{Zone, Outcome}
 use Rattle.places.specs.Meaning.{nameOf}
 use Rattle.zone.specs.Meaning.{updateOf}

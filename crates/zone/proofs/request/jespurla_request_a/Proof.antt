@@ -1,4 +1,4 @@
-use mathlib.Core.Path.{_≡_, refl}
+use mathlib.Core.Path.{refl}
 use Rattle.zone.specs.Zone.{requestA}
 use Rattle.places.specs.Meaning.{nameOf}
 use Rattle.zone.specs.Meaning.{updateOf}

@@ -1,4 +1,4 @@
-use mathlib.Core.Path.{_≡_, ap}
+use mathlib.Core.Path.{ap}
 use Rattle.places.specs.declared.survey.Zone.{Zone}
 use borrow.Author.Needs.{needs}
 use Rattle.zone.proofs.request.settle.Statement.{statement}
