@@ -43,13 +43,16 @@ fn do_64_match(n: u8, a: [u8; 64], b: [u8; 64]) -> bool
     compare::same(&a[..m], &b[..m])
 }
 
-// Whether the first n octets agree, n being at most 16. The first eight are compared as numbers, which
-// is all that most keys need to differ.
+// Whether the first n octets agree, n being at most 16. The first eight are compared as numbers: most
+// keys that differ do so there, and a key of at most eight octets has no more.
 fn do_16_agree(n: u8, a: [u8; 16], b: [u8; 64]) -> bool
     ensures { λ r. ⌜ r ≡ (leb n 16 && sameOctets (take n a) (take n b)) ⌝ }
 {
     if lead::lead_16(n, a) != lead::lead_64(n, b) {
         return false;
+    }
+    if n <= 8 {
+        return true;
     }
     do_16_match(n, a, b)
 }
@@ -60,6 +63,9 @@ fn do_64_agree(n: u8, a: [u8; 64], b: [u8; 64]) -> bool
 {
     if lead::lead_64(n, a) != lead::lead_64(n, b) {
         return false;
+    }
+    if n <= 8 {
+        return true;
     }
     do_64_match(n, a, b)
 }
