@@ -12,7 +12,7 @@ use Rattle.lease.specs.declared.Lease.{Lease}
 use Rattle.lease.specs.declared.Rank.{Rank}
 use Rattle.lease.specs.Lease.{noLease, rankOf, ranksBefore}
 use Rattle.leasetable.specs.Table.{those, placed, ranked}
-use Rattle.leasetable.proofs.HuntLaws.{placed-length}
+use Rattle.leasetable.proofs.CandidateLaws.{placed-length}
 
 pub bcase : {A : Type 0} (b : Bool) → (b ≡ true → A) → (b ≡ false → A) → A
 bcase true f g = f refl

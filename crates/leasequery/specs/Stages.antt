@@ -10,7 +10,7 @@ use Rattle.octets.specs.Write.{laid}
 use Rattle.lease.specs.Lease.{activeAt}
 use Rattle.leasepacket.specs.Query.{Asked, refused, byAddress, byHardware, byClientId, asking}
 use Rattle.leasetable.specs.declared.client.Key.{Key}
-use Rattle.leasetable.specs.declared.hunt.Hunt.{Hunt}
+use Rattle.leasetable.specs.declared.candidates.Candidates.{Candidates}
 use Rattle.leasetable.specs.declared.look.Found.{Found}
 use Rattle.leasetable.specs.Folds.{noRank}
 use Rattle.leasereply.specs.Reply.{otherReply, activeReply, listed, fitting}
@@ -39,8 +39,8 @@ refusalIn (byAddress a) = 0
 refusalIn (byHardware htype hlen octets) = 0
 refusalIn (byClientId octets) = 0
 
-unfoldable pub huntStart : Moment → ℕ → Key → Hunt
-huntStart clock n key =
+unfoldable pub noCandidates : Moment → ℕ → Key → Candidates
+noCandidates clock n key =
     record {
       refusal = n;
       clock = clock;
@@ -59,11 +59,11 @@ abbrev pub otherOf : ℕ → ℕ → List ℕ → List ℕ → Outcome
 otherOf kind server query buffer = reply kind (fitting query buffer (otherReply kind server query))
 
 abbrev pub activeOf : Found → ℕ → ℕ → List ℕ → List ℕ → Outcome
-activeOf h n server query buffer = reply 13 (fitting query buffer (activeReply (h .clock) server query (h .best) (listed n (h .ranks))))
+activeOf f n server query buffer = reply 13 (fitting query buffer (activeReply (f .clock) server query (f .best) (listed n (f .ranks))))
 
 unfoldable pub concluded : Found → ℕ → List ℕ → List ℕ → Outcome
-concluded h server query buffer =
-    cond (not (eqb (h .refusal) 0)) (refusal (h .refusal))
-    (cond (eqb (h .best .address) 0) (otherOf 12 server query buffer)
-    (cond (not (eqb (h .kind) 1)) (activeOf h (h .kept) server query buffer)
-    (cond (activeAt (h .clock) (h .best)) (activeOf h 0 server query buffer) (otherOf 11 server query buffer))))
+concluded f server query buffer =
+    cond (not (eqb (f .refusal) 0)) (refusal (f .refusal))
+    (cond (eqb (f .best .address) 0) (otherOf 12 server query buffer)
+    (cond (not (eqb (f .kind) 1)) (activeOf f (f .kept) server query buffer)
+    (cond (activeAt (f .clock) (f .best)) (activeOf f 0 server query buffer) (otherOf 11 server query buffer))))

@@ -6,7 +6,6 @@ use Rattle.leasetable.proofs.look.found_by.Tie as tie
 use Rattle.leasetable.proofs.look.found_by.Reads as reads
 use Rattle.leasetable.proofs.look.found_by.Lts as lts
 
--- src/look.rt:109:1
 returns : tie.Need-returns
 unfolding found
 returns c = refl

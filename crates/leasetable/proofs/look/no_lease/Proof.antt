@@ -6,7 +6,6 @@ use Rattle.leasetable.proofs.look.no_lease.Tie as tie
 use Rattle.leasetable.proofs.look.no_lease.Reads as reads
 use Rattle.leasetable.proofs.look.no_lease.Lts as lts
 
--- src/look.rt:66:1
 returns : tie.Need-returns
 unfolding noLease
 returns c = refl
