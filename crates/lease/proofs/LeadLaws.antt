@@ -1,6 +1,6 @@
 -- The laws of octets as one number. Assumes nothing.
 use mathlib.Core.Path.{_≡_, refl, sym, ap, subst, _∙_}
-use mathlib.Core.Bool.{Bool, true, false, cond, _&&_}
+use mathlib.Core.Bool.{Bool, true, false, _&&_}
 use mathlib.Core.List.{List, [], _∷_}
 use Prim.Native.Nat.{ℕ, zero, suc, _+_, _*_, _-_, _^_, _/_, _%_, _≤_, _<_}
 use native.Mathlib.Nat.{add-mul-mod-self-left, mul-assoc, mul-comm, add-mul, pow-suc, one-le-pow, mul-lt-mul-of-pos-right, mod-eq-of-lt, mul-div-cancel}
@@ -14,24 +14,21 @@ use denote.Laws.{Is}
 use denote.Array.{Array}
 use denote.Plain.{UInt}
 use borrow.Author.Needs.{elem-fits}
-use borrow.Author.Tests.{eq-eqb, ne-eqb, eqb-true, eqb-false, lt-ltb, le-ltb, ltb-true, ltb-false}
+use borrow.Table.Steps.{cases}
+use borrow.Author.Tests.{eq-eqb, ne-eqb, eqb-true, eqb-false, ltb-true, ltb-false}
 use Rattle.octets.specs.Compare.{sameOctets}
 use Rattle.octets.proofs.CompareLaws.{same-true, same-self}
 use Rattle.lease.specs.Lease.{allZero}
 use Rattle.lease.specs.Lead.{value, leading}
 
-bcase : {A : Type 0} (b : Bool) → (b ≡ true → A) → (b ≡ false → A) → A
-bcase true f g = f refl
-bcase false f g = g refl
-
 -- ---- zeros
-pub value-zero : (l : List ℕ) → eqb (value l) 0 ≡ allZero l
+value-zero : (l : List ℕ) → eqb (value l) 0 ≡ allZero l
 unfolding allZero value
 value-zero [] = refl
 value-zero (x ∷ xs) =
-    bcase (eqb x 0)
+    cases (eqb x 0)
     (λ e.
-    bcase (eqb (value xs) 0)
+    cases (eqb (value xs) 0)
     (λ f. let z : x + 256 * value xs ≡ 0 = omega (arith, eqb-true x 0 e, eqb-true (value xs) 0 f) in rw (e, z) (sym f ∙ value-zero xs))
     (λ f. rw e (ne-eqb (x + 256 * value xs) 0 (λ q. eqb-false (value xs) 0 f (omega (arith, q))) ∙ sym f ∙ value-zero xs)))
     (λ e. rw e (ne-eqb (x + 256 * value xs) 0 (λ q. eqb-false x 0 e (omega (arith, q)))))
@@ -48,7 +45,7 @@ module _ (s : List ℕ) (n : length s ≡ 16) where
   zeros-are b e = ap allZero back-is ∙ ap (λ t. eqb (getD s 6 0) 0 && (eqb (getD s 7 0) 0 && t)) (sym (value-zero back) ∙ e)
 
   pub tail-broken : (value back ≡ 0 → ⊥) → allZero (drop 6 s) ≡ false
-  tail-broken h = zeros-are false (ne-eqb _ _ h) ∙ bcase (eqb (getD s 6 0) 0) (λ e. rw e (bcase (eqb (getD s 7 0) 0) (λ f. rw f) (λ f. rw f))) (λ e. rw e)
+  tail-broken h = zeros-are false (ne-eqb _ _ h) ∙ cases (eqb (getD s 6 0) 0) (λ e. rw e (cases (eqb (getD s 7 0) 0) (λ f. rw f) (λ f. rw f))) (λ e. rw e)
 
   pub tail-of-6 : value back ≡ 0 → eqb (value (getD s 6 0 ∷ getD s 7 0 ∷ 0 ∷ 0 ∷ [])) 0 ≡ allZero (drop 6 s)
   unfolding allZero
@@ -100,8 +97,8 @@ leads n s h =
 lead-same : (n : ℕ) (a b : List ℕ) → take n a ≡ take n b → leading n (value (take 8 a)) ≡ leading n (value (take 8 b))
 unfolding leading
 lead-same n a b e =
-    bcase (eqb n 0) (λ z. rw z)
-    (λ z. bcase (ltb 7 n)
+    cases (eqb n 0) (λ z. rw z)
+    (λ z. cases (ltb 7 n)
     (λ t. rw (z, t) (ap value (sym (take-take 8 n a (long t)) ∙ ap (take 8) e ∙ take-take 8 n b (long t))))
     (λ t. rw (z, t) (leads n a (short t) ∙ ap (λ (l : List ℕ). (value l * 2 ^ (64 - 8 * n)) % 2 ^ 64) e ∙ sym (leads n b (short t)))))
   where
@@ -113,7 +110,7 @@ lead-same n a b e =
 
 -- octets whose leading ones differ are not the same
 pub lead-apart : (n : ℕ) (a b : List ℕ) → (leading n (value (take 8 a)) ≡ leading n (value (take 8 b)) → ⊥) → sameOctets (take n a) (take n b) ≡ false
-lead-apart n a b h = bcase (sameOctets (take n a) (take n b)) (λ e. absurd (h (lead-same n a b (same-true (take n a) (take n b) e)))) (λ e. e)
+lead-apart n a b h = cases (sameOctets (take n a) (take n b)) (λ e. absurd (h (lead-same n a b (same-true (take n a) (take n b) e)))) (λ e. e)
 
 -- ---- the number says all of at most eight octets
 abbrev Octets : List ℕ → Type 0
@@ -159,9 +156,9 @@ module _ (n : ℕ) (a b : List ℕ) (h : n ≤ 8) (o : Octets a) (q : Octets b) 
   lead-values : value (take n a) ≡ value (take n b)
   unfolding leading
   lead-values =
-      bcase (eqb n 0)
+      cases (eqb n 0)
       (λ z. let d = eqb-true n 0 z in ap (λ (k : ℕ). value (take k a)) d ∙ sym (ap (λ (k : ℕ). value (take k b)) d))
-      (λ z. bcase (ltb 7 n)
+      (λ z. cases (ltb 7 n)
       (λ t. let d : n ≡ 8 = omega (arith, h, ltb-true 7 n t) in ap (λ (k : ℕ). value (take k a)) d ∙ (rw (z, t) at e) ∙ sym (ap (λ (k : ℕ). value (take k b)) d))
       (λ t. let s = ltb-false 7 n t in sym (lead-value n a s o) ∙ ap (λ (k : ℕ). k / 2 ^ (64 - 8 * n)) (rw (z, t) at e) ∙ lead-value n b s q))
 

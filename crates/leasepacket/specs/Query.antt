@@ -1,9 +1,8 @@
 -- What a lease query asks for. Document 01, "Lease table and queries" and "Refusal numbers", 1 to 7 rising.
 use Prim.Native.Nat.{ℕ, _+_}
-use mathlib.Core.Bool.{Bool, true, false, cond, not, _||_}
+use mathlib.Core.Bool.{Bool, false, cond, not, _||_}
 use mathlib.Core.List.{List, [], _∷_}
-use mathlib.Core.Option.{Option}
-use lib.Dec.{ltb, leb, eqb}
+use lib.Dec.{ltb, eqb}
 use lib.ListN.{length, getD, take, drop}
 use Rattle.octets.specs.Number.{numberAt}
 use Rattle.octets.specs.Compare.{sameOctets}

@@ -1,39 +1,34 @@
 -- The scans and the conclusion come to the answer. Assumes nothing.
-use Prim.Native.Nat.{ℕ, zero, suc, _+_, _-_, _≤_, _<_, min}
-use mathlib.Core.Path.{_≡_, refl, sym, ap, _∙_, subst}
-use mathlib.Core.List.{List, [], _∷_, _++_, foldl, map, headD}
-use mathlib.Core.Bool.{Bool, true, false, cond, not, _&&_, _||_, and-false}
+use Prim.Native.Nat.{ℕ, zero, suc, _≤_, _<_, min}
+use mathlib.Core.Path.{_≡_, refl, sym, ap, _∙_}
+use mathlib.Core.List.{List, [], _∷_, foldl, map, headD}
+use mathlib.Core.Bool.{Bool, true, false, cond, not, _&&_, and-false}
 use native.Mathlib.Omega.{arith}
 use lib.Dec.{leb, ltb, eqb}
 use lib.ListN.{length, take, drop, replicate, length-replicate}
-use lib.Seq.{take-append-le, take-all}
-use borrow.Author.Tests.{leb-true, leb-false, lt-ltb, le-ltb, lt-leb, le-leb, ltb-false, not-false}
+use lib.Seq.{take-append-le}
+use borrow.Table.Steps.{cases}
+use borrow.Author.Tests.{leb-true, leb-false, lt-ltb, le-ltb, ltb-false}
 use Rattle.clock.specs.declared.Moment.{Moment}
 use Rattle.clock.specs.Clock.{isMoment}
 use Rattle.octets.specs.Write.{laid}
-use Rattle.octets.specs.Compare.{sameOctets}
 use Rattle.lease.specs.declared.Lease.{Lease}
 use Rattle.lease.specs.declared.Rank.{Rank}
 use Rattle.lease.specs.Lease.{noLease, activeAt, hasHardware, hasClientId, rankOf}
-use Rattle.leasepacket.specs.Query.{Asked, refused, byAddress, byHardware, byClientId, asking}
+use Rattle.leasepacket.specs.Query.{Asked, refused, byAddress, byHardware, byClientId}
 use Rattle.leasepacket.proofs.QueryLaws.{Sound, asking-sound}
 use Rattle.leasetable.specs.declared.client.Key.{Key}
-use Rattle.leasetable.specs.declared.candidates.Candidates.{Candidates}
 use Rattle.leasetable.specs.declared.record.Record.{Record}
 use Rattle.leasetable.specs.declared.look.Found.{Found}
 use Rattle.leasetable.specs.Table.{tableFits, risesFrom, those, placed, ranked}
-use Rattle.leasetable.specs.Folds.{formStart, formTurn, clientHas, recordTurn, noRank, associatedFrom, recordFor, found, looked}
+use Rattle.leasetable.specs.Folds.{formStart, formTurn, clientHas, noRank, associatedFrom, recordFor, found, looked}
 use Rattle.leasetable.proofs.FormLaws.{form-whole}
 use Rattle.leasetable.proofs.CandidateLaws.{reached-none}
 use Rattle.leasetable.proofs.LookLaws.{Looked, client-looked, record-fold, Above, above-those}
 use Rattle.leasereply.specs.Reply.{otherReply, activeReply, addressesOf, listed, fitting}
-use Rattle.leasequery.specs.Answer.{Outcome, refusal, reply, hasKey, byAddressOf, byClientOf, leasesOf, answerBy, askedOf, answer}
+use Rattle.leasequery.specs.Answer.{refusal, reply, hasKey, byAddressOf, byClientOf, leasesOf, answerBy, askedOf, answer}
 use Rattle.leasequery.specs.Stages.{padded, idKey, refusalIn, keyFor, noCandidates, askedAt, otherOf, activeOf, concluded}
 use Rattle.leasequery.proofs.StageLaws.{padded-laid, con-refused, con-unknown, con-client, con-active, con-unassigned}
-
-bcase : {A : Type 0} (b : Bool) → (b ≡ true → A) → (b ≡ false → A) → A
-bcase true f g = f refl
-bcase false f g = g refl
 
 -- ---- keys
 padded-front : (o : List ℕ) (n : ℕ) → length o ≤ 64 → n ≤ length o → take n (padded o) ≡ take n o
@@ -47,7 +42,7 @@ hardware-key htype hlen o x h e = rw (padded-front o hlen (omega arith) (omega a
 id-key : (o : List ℕ) (x : Lease) → clientHas (idKey o) x ≡ hasKey (byClientId o) x
 unfolding clientHas hasKey hasClientId idKey
 id-key o x =
-    bcase (leb (length o) 64)
+    cases (leb (length o) 64)
     (λ t. let h : length o ≤ 64 = leb-true (length o) 64 t in let m : min (length o) 65 ≡ length o = omega arith in rw (m, padded-front o (length o) h (omega arith)))
     (λ t. let h : 64 < length o = leb-false (length o) 64 t in let m : min (length o) 65 ≡ 65 = omega arith in rw (m, t) (rw (and-false (eqb (x .idlen) 65), and-false (eqb (x .idlen) (length o)))))
 
@@ -117,7 +112,7 @@ module _ (clock : Moment) (server : ℕ) (ps os : List ℕ) (a : 240 ≤ length 
     address-out h [] r c k e p = con-unknown h server ps os r (ap (λ (x : Lease). x .address) e) ∙ other-is 12
     address-out h (x ∷ xs) r c k e p =
         let w : activeAt (h .clock) (h .best) ≡ activeAt clock x = ap (λ (m : Moment). activeAt m (h .best)) c ∙ ap (activeAt clock) e in
-        bcase (activeAt clock x)
+        cases (activeAt clock x)
         (λ t. rw t (con-active h server ps os r (there h x e p) k (w ∙ t) ∙ active-is h 0 x [] c e refl))
         (λ t. rw t (con-unassigned h server ps os r (there h x e p) k (w ∙ t) ∙ other-is 11))
 
@@ -151,9 +146,9 @@ fit-rises t e = go (leb (length t) 256) (risesFrom 0 t) e
 asked-sound : (clock : Moment) (t : List Lease) (ps : List ℕ) (room : ℕ) → Sound ps (askedOf clock t ps room) × (refusalIn (askedOf clock t ps room) ≡ 0 → (648 ≤ room) × (risesFrom 0 t ≡ true))
 unfolding askedOf
 asked-sound clock t ps room =
-    bcase (not (isMoment clock)) (λ e. rw e ((λ z. omega (arith, z)), (λ z. absurd (omega (arith, z)))))
-    (λ e. bcase (not (tableFits t)) (λ f. rw (e, f) ((λ z. omega (arith, z)), (λ z. absurd (omega (arith, z)))))
-    (λ f. bcase (ltb room 648) (λ g. rw (e, f, g) ((λ z. omega (arith, z)), (λ z. absurd (omega (arith, z)))))
+    cases (not (isMoment clock)) (λ e. rw e ((λ z. omega (arith, z)), (λ z. absurd (omega (arith, z)))))
+    (λ e. cases (not (tableFits t)) (λ f. rw (e, f) ((λ z. omega (arith, z)), (λ z. absurd (omega (arith, z)))))
+    (λ f. cases (ltb room 648) (λ g. rw (e, f, g) ((λ z. omega (arith, z)), (λ z. absurd (omega (arith, z)))))
     (λ g. rw (e, f, g) (asking-sound ps, (λ z. (ltb-false room 648 g, fit-rises t f))))))
 
 abbrev pub keptForm : List Lease → Bool

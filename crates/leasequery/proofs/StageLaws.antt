@@ -1,10 +1,10 @@
 -- The laws of what the inner functions hand on. Assumes nothing.
-use Prim.Native.Nat.{ℕ, zero, suc, _+_, _-_, _≤_, _<_, min}
+use Prim.Native.Nat.{ℕ, _-_, _≤_, _<_, min}
 use mathlib.Core.Path.{_≡_, refl, sym, ap, _∙_}
-use mathlib.Core.List.{List, [], _∷_, _++_}
-use mathlib.Core.Bool.{Bool, true, false, cond, not}
+use mathlib.Core.List.{List, [], _∷_}
+use mathlib.Core.Bool.{Bool, true, false}
 use native.Mathlib.Omega.{arith}
-use lib.Dec.{leb, ltb, eqb}
+use lib.Dec.{leb}
 use lib.ListN.{length, take, drop, replicate, length-take, length-drop, length-replicate}
 use lib.Seq.{take-all}
 use borrow.Author.Tests.{leb-true, leb-false, lt-ltb, le-ltb, eq-eqb, ne-eqb}
@@ -13,8 +13,8 @@ use Rattle.octets.proofs.WriteLaws.{written, put-front, laid-nothing}
 use Rattle.lease.specs.Lease.{activeAt}
 use Rattle.leasepacket.specs.Query.{part}
 use Rattle.leasetable.specs.declared.look.Found.{Found}
-use Rattle.leasequery.specs.Answer.{Outcome, refusal}
-use Rattle.leasequery.specs.Stages.{padded, idKey, otherOf, activeOf, concluded}
+use Rattle.leasequery.specs.Answer.{refusal}
+use Rattle.leasequery.specs.Stages.{padded, otherOf, activeOf, concluded}
 
 -- ---- octets of the packet
 pub part-length : (p : List ℕ) (at n : ℕ) → length (part p at n) ≡ min n (length p - at)

@@ -1,33 +1,29 @@
 -- What the two scans by client say of the whole table. Assumes nothing.
 use mathlib.Core.Path.{_≡_, refl, sym, _∙_, ap, subst}
-use mathlib.Core.Bool.{Bool, true, false, cond, _&&_, _||_}
-use mathlib.Core.List.{List, [], _∷_, _++_, foldl, map, headD}
+use mathlib.Core.Bool.{_&&_}
+use mathlib.Core.List.{List, [], _∷_, _++_, foldl, map}
 use Prim.Native.Nat.{ℕ, zero, suc, _+_, _≤_, _<_, min}
 use native.Mathlib.Omega.{arith}
-use native.Mathlib.Numerals.{add-one}
 use lib.ListN.{length, take, drop, length-take, length-append, length-drop, length-map}
 use lib.Seq.{take-all, take-take, take-append-le}
-use lib.Dec.{ltb, leb, eqb}
-use borrow.Author.Tests.{le-ltb, eq-eqb, ne-eqb, leb-true, leb-false}
+use lib.Dec.{leb}
+use borrow.Table.Steps.{cases}
+use borrow.Author.Tests.{le-ltb, leb-true, leb-false}
 use Rattle.clock.specs.declared.Moment.{Moment}
 use Rattle.lease.specs.declared.Lease.{Lease}
 use Rattle.lease.specs.declared.Rank.{Rank}
-use Rattle.lease.specs.Lease.{noLease, activeAt, rankOf, ranksBefore}
+use Rattle.lease.specs.Lease.{activeAt, rankOf, ranksBefore}
 use Rattle.leasetable.specs.declared.client.Key.{Key}
 use Rattle.leasetable.specs.declared.candidates.Candidates.{Candidates}
 use Rattle.leasetable.specs.declared.associated.Associated.{Associated}
-use Rattle.leasetable.specs.Table.{those, placed, ranked}
+use Rattle.leasetable.specs.Table.{those, placed}
 use Rattle.leasetable.specs.Folds.{clientHas, placedRank, inserted, candidatesWants, candidatesAdd, candidatesTurn, associatedWants, associatedAdd, associatedTurn}
 
 -- ---- lists of ranks
-bcase : {A : Type 0} (b : Bool) → (b ≡ true → A) → (b ≡ false → A) → A
-bcase true f g = f refl
-bcase false f g = g refl
-
 placed-rank-length : (e : Rank) (l : List Rank) → length (placedRank e l) ≡ suc (length l)
 unfolding placedRank
 placed-rank-length e [] = refl
-placed-rank-length e (y ∷ ys) = bcase (ranksBefore e y) (λ t. rw t (ap suc (placed-rank-length y ys))) (λ t. rw t (ap suc (placed-rank-length e ys)))
+placed-rank-length e (y ∷ ys) = cases (ranksBefore e y) (λ t. rw t (ap suc (placed-rank-length y ys))) (λ t. rw t (ap suc (placed-rank-length e ys)))
 
 -- the first n places do not depend on what stands behind them
 placed-rank-front : (n : ℕ) (e : Rank) (l : List Rank) → take n (placedRank e (take n l)) ≡ take n (placedRank e l)
@@ -35,20 +31,20 @@ unfolding placedRank
 placed-rank-front zero e l = refl
 placed-rank-front (suc n) e [] = refl
 placed-rank-front (suc n) e (y ∷ ys) =
-    bcase (ranksBefore e y) (λ t. rw t (ap (λ (l : List Rank). e ∷ l) (placed-rank-front n y ys))) (λ t. rw t (ap (λ (l : List Rank). y ∷ l) (placed-rank-front n e ys)))
+    cases (ranksBefore e y) (λ t. rw t (ap (λ (l : List Rank). e ∷ l) (placed-rank-front n y ys))) (λ t. rw t (ap (λ (l : List Rank). y ∷ l) (placed-rank-front n e ys)))
 
 -- leases go by their ranks
 placed-ranks : (x : Lease) (l : List Lease) → map rankOf (placed x l) ≡ placedRank (rankOf x) (map rankOf l)
 unfolding placed placedRank
 placed-ranks x [] = refl
 placed-ranks x (y ∷ ys) =
-    bcase (ranksBefore (rankOf x) (rankOf y)) (λ t. rw t (ap (λ (l : List Rank). rankOf x ∷ l) (placed-ranks y ys))) (λ t. rw t (ap (λ (l : List Rank). rankOf y ∷ l) (placed-ranks x ys)))
+    cases (ranksBefore (rankOf x) (rankOf y)) (λ t. rw t (ap (λ (l : List Rank). rankOf x ∷ l) (placed-ranks y ys))) (λ t. rw t (ap (λ (l : List Rank). rankOf y ∷ l) (placed-ranks x ys)))
 
 pub placed-length : (x : Lease) (l : List Lease) → length (placed x l) ≡ suc (length l)
 placed-length x l = sym (length-map (placed x l) rankOf) ∙ ap length (placed-ranks x l) ∙ placed-rank-length (rankOf x) (map rankOf l) ∙ ap suc (length-map l rankOf)
 
 min-take : (l : List Rank) (n m : ℕ) → m ≡ min (length l) n → take m l ≡ take n l
-min-take l n m e = bcase (leb (length l) n)
+min-take l n m e = cases (leb (length l) n)
     (λ t. let h : length l ≤ n = leb-true (length l) n t in let k : length l ≤ m = omega (arith, e) in take-all m l k ∙ sym (take-all n l h))
     (λ t. let h : n < length l = leb-false (length l) n t in let k : m ≡ n = omega (arith, e) in ap (λ (j : ℕ). take j l) k)
 
@@ -130,7 +126,7 @@ module _ (n : ℕ) (clock : Moment) (key : Key) where
   unfolding those
   candidates-fold [] h l r = r
   candidates-fold (x ∷ xs) h l r =
-      bcase (activeAt clock x && clientHas key x)
+      cases (activeAt clock x && clientHas key x)
       (λ w. rw (w, candidates-wants h l x r ∙ w) (candidates-fold xs (candidatesAdd h x) (placed x l) (candidates-more h l x r)))
       (λ w. rw (w, candidates-wants h l x r ∙ w) (candidates-fold xs h l r))
 
@@ -159,6 +155,6 @@ module _ (n : ℕ) (clock : Moment) (key : Key) where
   unfolding those
   associated-fold [] h l r = r
   associated-fold (x ∷ xs) h l r =
-      bcase (activeAt clock x && clientHas key x)
+      cases (activeAt clock x && clientHas key x)
       (λ w. rw (w, associated-wants h l x r ∙ w) (associated-fold xs (associatedAdd h x) (placed x l) (associated-more h l x r)))
       (λ w. rw (w, associated-wants h l x r ∙ w) (associated-fold xs h l r))

@@ -1,12 +1,12 @@
 -- The laws of putting a rank in its place, at a place of the loop. Assumes nothing.
 use mathlib.Core.Path.{_≡_, refl, sym, _∙_, ap}
-use mathlib.Core.Bool.{Bool, true, false, cond}
+use mathlib.Core.Bool.{true, false}
 use mathlib.Core.Logic.{_⊎_, inl, inr}
 use mathlib.Core.List.{List, [], _∷_, _++_, append-assoc}
-use Prim.Native.Nat.{ℕ, suc, _+_, _≤_, _<_}
+use Prim.Native.Nat.{ℕ, _+_, _≤_, _<_}
 use native.Mathlib.Numerals.{add-one}
 use native.Mathlib.Omega.{arith}
-use lib.ListN.{length, getD, take, drop, set, length-take, length-append, length-set, drop-of-length-le}
+use lib.ListN.{length, getD, take, drop, set, length-take, length-set, drop-of-length-le}
 use lib.Seq.{drop-cons, take-suc, take-suc-set, take-set-lt, drop-set-lt, getD-take, take-all, take-at, set-split}
 use Rattle.clock.specs.Clock.{moment}
 use Rattle.lease.specs.declared.Rank.{Rank}

@@ -2,42 +2,30 @@
 use mathlib.Core.Path.{_≡_, refl, sym, _∙_, ap, subst}
 use mathlib.Core.Bool.{Bool, true, false, cond, _&&_}
 use mathlib.Core.List.{List, [], _∷_, foldl, map, headD}
-use Prim.Native.Nat.{ℕ, zero, suc, _+_, _≤_, _<_, min}
+use Prim.Native.Nat.{ℕ, zero, suc, _≤_, _<_, min}
 use native.Mathlib.Omega.{arith}
 use lib.ListN.{length, take, getD, set, length-map, length-replicate}
 use lib.Seq.{take-all}
 use lib.Dec.{ltb, eqb}
+use borrow.Table.Steps.{cases}
 use borrow.Author.Tests.{eq-eqb, ne-eqb, eqb-true, eqb-false, ltb-true, ltb-false, le-ltb}
 use Rattle.clock.specs.declared.Moment.{Moment}
 use Rattle.lease.specs.declared.Lease.{Lease}
 use Rattle.lease.specs.declared.Rank.{Rank}
-use Rattle.lease.specs.Lease.{noLease, wellFormed, activeAt, rankOf, ranksBefore}
+use Rattle.lease.specs.Lease.{noLease, activeAt, rankOf, ranksBefore}
 use Rattle.leasetable.specs.declared.client.Key.{Key}
 use Rattle.leasetable.specs.declared.candidates.Candidates.{Candidates}
 use Rattle.leasetable.specs.declared.associated.Associated.{Associated}
 use Rattle.leasetable.specs.declared.record.Record.{Record}
 use Rattle.leasetable.specs.declared.look.Found.{Found}
 use Rattle.leasetable.specs.Table.{risesFrom, those, placed}
-use Rattle.leasetable.specs.Folds.{clientHas, candidatesTurn, associatedTurn, recordAdd, recordTurn, noRank, noRanks, associatedAt, associatedFrom, recordFor, found, candidatesIn, associatedIn, recordIn, looked}
-use Rattle.leasetable.proofs.CandidateLaws.{Reached, reached-none, order, CandidatesReached, candidates-fold, AssociatedReached, associated-fold}
-
-bcase : {A : Type 0} (b : Bool) → (b ≡ true → A) → (b ≡ false → A) → A
-bcase true f g = f refl
-bcase false f g = g refl
+use Rattle.leasetable.specs.Folds.{clientHas, candidatesTurn, recordAdd, recordTurn, noRank, noRanks, associatedAt, associatedFrom, recordFor, found, associatedIn, recordIn, looked}
+use Rattle.leasetable.proofs.FormLaws.{rise-first, rise-rest}
+use Rattle.leasetable.proofs.CandidateLaws.{Reached, reached-none, order, CandidatesReached, candidates-fold, associated-fold}
 
 -- ---- addresses that rise
-apart : false ≡ true → ⊥
-apart e = let z : _≡_ {A = ℕ} 0 1 = ap (λ (b : Bool). cond b 1 0) e in omega (arith, z)
-
-both : (a b c : Bool) → (a && b && c) ≡ true → (a ≡ true) × (c ≡ true)
-both true true true e = (refl, refl)
-both true true false e = (refl, e)
-both true false c e = absurd (apart e)
-both false b c e = absurd (apart e)
-
 rises : (p : ℕ) (x : Lease) (xs : List Lease) → risesFrom p (x ∷ xs) ≡ true → (p < x .address) × (risesFrom (x .address) xs ≡ true)
-unfolding risesFrom
-rises p x xs e = let h = both (ltb p (x .address)) (wellFormed x) (risesFrom (x .address) xs) e in (ltb-true p (x .address) (h .0), h .1)
+rises p x xs e = (rise-first p x xs e, rise-rest p x xs e)
 
 abbrev at : ℕ → Lease → Bool
 at a x = eqb (x .address) a
@@ -56,7 +44,7 @@ unfolding those headD
 record-fold [] p f e = refl
 record-fold (x ∷ xs) p f e =
     let h = rises p x xs e in
-    bcase (eqb (x .address) (f .address))
+    cases (eqb (x .address) (f .address))
     (λ w.
     ap (λ (b : Bool). foldl recordTurn (cond b (recordAdd f x) f) xs .best) w
     ∙ record-fold xs (x .address) (recordAdd f x) (h .1)
@@ -76,12 +64,12 @@ module _ (P : Lease → Type 0) where
   all-those : (test : Lease → Bool) (t : List Lease) → All t → All (those test t)
   unfolding those
   all-those test [] a = tt
-  all-those test (x ∷ xs) a = bcase (test x) (λ e. rw e (a .0, all-those test xs (a .1))) (λ e. rw e (all-those test xs (a .1)))
+  all-those test (x ∷ xs) a = cases (test x) (λ e. rw e (a .0, all-those test xs (a .1))) (λ e. rw e (all-those test xs (a .1)))
 
   all-placed : (x : Lease) (l : List Lease) → P x → All l → All (placed x l)
   unfolding placed
   all-placed x [] p a = (p, tt)
-  all-placed x (y ∷ ys) p a = bcase (ranksBefore (rankOf x) (rankOf y)) (λ e. rw e (p, all-placed y ys (a .0) (a .1))) (λ e. rw e (a .0, all-placed x ys p (a .1)))
+  all-placed x (y ∷ ys) p a = cases (ranksBefore (rankOf x) (rankOf y)) (λ e. rw e (p, all-placed y ys (a .0) (a .1))) (λ e. rw e (a .0, all-placed x ys p (a .1)))
 
   all-order : (l t : List Lease) → All l → All t → All (order l t)
   all-order l [] a b = a
@@ -130,7 +118,7 @@ unfolding those
 above-those test [] p e = tt
 above-those test (x ∷ xs) p e =
     let h = rises p x xs e in
-    bcase (test x) (λ w. rw w (omega (arith, h .0))) (λ w. rw w (above-those test xs (x .address) (h .1)))
+    cases (test x) (λ w. rw w (omega (arith, h .0))) (λ w. rw w (above-those test xs (x .address) (h .1)))
 
 pub record Looked (n : ℕ) (clock : Moment) (kind : ℕ) (r : Found) (l : List Lease) : Type 0 where
   pub refusal-is : r .refusal ≡ n
@@ -152,7 +140,7 @@ module _ (n : ℕ) (clock : Moment) (key : Key) (t : List Lease) where
   ranked : (h : Candidates) → CandidatesReached n clock key h l₀ → Ranked (associatedIn (associatedFrom h) t)
   unfolding associatedFrom
   ranked h r =
-      bcase (eqb (h .kept) 4)
+      cases (eqb (h .kept) 4)
       (λ e. rw e (let g = associated-fold n clock key t (associatedAt false h 0 noRanks) [] (record { refusal-is = r .refusal-is; clock-is = r .clock-is; key-is = r .key-is; reached = reached-none 63 noRanks (length-replicate {A = Rank} 63 noRank) }) in
       (g .refusal-is, g .clock-is, g .key-is, g .reached .kept-is, g .reached .ranks-are)))
       (λ e.
@@ -164,7 +152,7 @@ module _ (n : ℕ) (clock : Moment) (key : Key) (t : List Lease) where
       rw e (r .refusal-is, r .clock-is, r .key-is, omega (arith, k, z), three (h .ranks) (h .kept) (r .reached .places-are) s ∙ r .reached .ranks-are ∙ take-all 4 (map rankOf l₀) (omega (arith, w, z)) ∙ sym (take-all 63 (map rankOf l₀) (omega (arith, w, z)))))
     where
       few : (k m : ℕ) → k ≡ min m 4 → (k ≡ 4 → ⊥) → k ≤ 3
-      few k m e n = bcase (ltb k 4) (λ t. omega (arith, ltb-true k 4 t)) (λ t. absurd (n (omega (arith, e, ltb-false k 4 t))))
+      few k m e n = cases (ltb k 4) (λ t. omega (arith, ltb-true k 4 t)) (λ t. absurd (n (omega (arith, e, ltb-false k 4 t))))
 
       fewer : (k m : ℕ) → k ≡ min m 4 → (k ≡ 4 → ⊥) → m ≤ 3
       fewer k m e n = let h = few k m e n in omega (arith, e, h)

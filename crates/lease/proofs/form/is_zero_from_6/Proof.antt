@@ -1,16 +1,10 @@
-use borrow.Author.Tests.{eq-eqb, ne-eqb, le-leb, lt-leb, lt-ltb, le-ltb, not-true, not-false}
 use mathlib.Core.Path.{_≡_, sym, _∙_, ap}
-use native.Mathlib.Omega.{arith}
 use lib.ListN.{length}
 use lib.Dec.{eqb}
 use Rattle.lease.proofs.LeadLaws.{tail-broken, tail-of-6}
 use borrow.Author.Needs.{needs}
 use Rattle.lease.proofs.form.is_zero_from_6.Statement.{statement}
 use Rattle.lease.proofs.form.is_zero_from_6.Tie as tie
-use Rattle.lease.proofs.form.is_zero_from_6.Reads as reads
-use Rattle.lease.proofs.form.is_zero_from_6.Lts as lts
-use Rattle.lease.proofs.lead.eight.Reads as eight-reads
-use Rattle.lease.proofs.lead.four.Reads as four-reads
 
 array-read-eight : tie.Need-array-read-eight
 array-read-eight c = search needs

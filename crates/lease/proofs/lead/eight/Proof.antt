@@ -1,13 +1,8 @@
-use borrow.Author.Tests.{eq-eqb, ne-eqb, le-leb, lt-leb, lt-ltb, le-ltb, not-true, not-false}
-use mathlib.Core.Path.{_≡_, sym, _∙_, ap}
 use native.Mathlib.Omega.{arith}
-use Rattle.lease.specs.Lead.{value, leading}
+use Rattle.lease.specs.Lead.{value}
 use borrow.Author.Needs.{needs}
 use Rattle.lease.proofs.lead.eight.Statement.{statement}
 use Rattle.lease.proofs.lead.eight.Tie as tie
-use Rattle.lease.proofs.lead.eight.Reads as reads
-use Rattle.lease.proofs.lead.eight.Lts as lts
-use Rattle.lease.proofs.lead.four.Reads as four-reads
 
 four-requires : tie.Need-four-requires
 four-requires c κs = search needs

@@ -1,13 +1,8 @@
-use borrow.Author.Tests.{eq-eqb, ne-eqb, le-leb, lt-leb, lt-ltb, le-ltb, not-true, not-false}
-use mathlib.Core.Path.{_≡_, sym, _∙_, ap}
 use native.Mathlib.Omega.{arith}
-use Rattle.lease.specs.Lead.{value, leading}
+use Rattle.lease.specs.Lead.{value}
 use borrow.Author.Needs.{needs}
 use Rattle.lease.proofs.lead.four.Statement.{statement}
 use Rattle.lease.proofs.lead.four.Tie as tie
-use Rattle.lease.proofs.lead.four.Reads as reads
-use Rattle.lease.proofs.lead.four.Lts as lts
-use Rattle.lease.proofs.lead.wide.Reads as wide-reads
 
 wide-requires : tie.Need-wide-requires
 wide-requires c κs = search needs

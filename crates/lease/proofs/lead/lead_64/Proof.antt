@@ -1,4 +1,3 @@
-use borrow.Author.Tests.{eq-eqb, ne-eqb, le-leb, lt-leb, lt-ltb, le-ltb, not-true, not-false}
 use mathlib.Core.Path.{_≡_, sym, _∙_, ap}
 use native.Mathlib.Omega.{arith}
 use Rattle.lease.specs.Lead.{value, leading}
@@ -7,10 +6,6 @@ use Rattle.lease.proofs.LeadLaws.{first-eight}
 use borrow.Author.Needs.{needs}
 use Rattle.lease.proofs.lead.lead_64.Statement.{statement}
 use Rattle.lease.proofs.lead.lead_64.Tie as tie
-use Rattle.lease.proofs.lead.lead_64.Reads as reads
-use Rattle.lease.proofs.lead.lead_64.Lts as lts
-use Rattle.lease.proofs.lead.eight.Reads as eight-reads
-use Rattle.lease.proofs.lead.leading_of.Reads as leading-of-reads
 
 array-read-eight : tie.Need-array-read-eight
 array-read-eight c = search needs

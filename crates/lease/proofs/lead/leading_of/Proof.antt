@@ -1,12 +1,8 @@
-use borrow.Author.Tests.{eq-eqb, ne-eqb, le-leb, lt-leb, lt-ltb, le-ltb, not-true, not-false}
-use mathlib.Core.Path.{_≡_, sym, _∙_, ap}
-use native.Mathlib.Omega.{arith}
-use Rattle.lease.specs.Lead.{value, leading}
+use borrow.Author.Tests.{eq-eqb, ne-eqb, lt-ltb, le-ltb}
+use Rattle.lease.specs.Lead.{leading}
 use borrow.Author.Needs.{needs}
 use Rattle.lease.proofs.lead.leading_of.Statement.{statement}
 use Rattle.lease.proofs.lead.leading_of.Tie as tie
-use Rattle.lease.proofs.lead.leading_of.Reads as reads
-use Rattle.lease.proofs.lead.leading_of.Lts as lts
 
 returns : tie.Need-returns
 unfolding leading

@@ -1,5 +1,4 @@
-use borrow.Author.Tests.{eq-eqb, ne-eqb, le-leb, lt-leb, lt-ltb, le-ltb, not-true, not-false}
-use mathlib.Core.Path.{_≡_, sym, _∙_, ap, refl}
+use mathlib.Core.Path.{_∙_, ap}
 use Rattle.leasequery.specs.Stages.{noCandidates, refusalIn, keyFor, askedAt}
 use borrow.Author.Needs.{needs}
 use Rattle.leasequery.proofs.ask.ask.Statement.{statement}

@@ -3,8 +3,6 @@ use native.Mathlib.Omega.{arith}
 use borrow.Author.Tests.{le-leb, lt-leb}
 use Rattle.leasequery.proofs.ask.does_fit.Statement.{statement}
 use Rattle.leasequery.proofs.ask.does_fit.Tie as tie
-use Rattle.leasequery.proofs.ask.does_fit.Reads as reads
-use Rattle.leasequery.proofs.ask.does_fit.Lts as lts
 
 returns : tie.Need-returns
 returns c =

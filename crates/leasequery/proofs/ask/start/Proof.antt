@@ -1,5 +1,4 @@
-use borrow.Author.Tests.{eq-eqb, ne-eqb, le-leb, lt-leb, lt-ltb, le-ltb, not-true, not-false}
-use mathlib.Core.Path.{_≡_, sym, _∙_, ap, refl}
+use mathlib.Core.Path.{refl}
 use Rattle.leasequery.specs.Stages.{noCandidates}
 use Rattle.leasequery.proofs.ask.start.Statement.{statement}
 use Rattle.leasequery.proofs.ask.start.Tie as tie

@@ -1,5 +1,4 @@
-use borrow.Author.Tests.{eq-eqb, ne-eqb, le-leb, lt-leb, lt-ltb, le-ltb, not-true, not-false}
-use mathlib.Core.Path.{_≡_, sym, _∙_, ap, refl}
+use mathlib.Core.Path.{sym, _∙_, refl}
 use Rattle.octets.proofs.WriteLaws.{laid-nothing}
 use Rattle.leasequery.proofs.StageLaws.{con-refused, con-unknown, con-client, con-active, con-unassigned}
 use borrow.Author.Needs.{needs}

@@ -2,8 +2,6 @@ use Rattle.leasereply.proofs.ReplyLaws.{low-octets}
 use borrow.Author.Needs.{needs}
 use Rattle.leasereply.proofs.options.low_32.Statement.{statement}
 use Rattle.leasereply.proofs.options.low_32.Tie as tie
-use Rattle.leasereply.proofs.options.low_32.Reads as reads
-use Rattle.leasereply.proofs.options.low_32.Lts as lts
 
 cast-result : tie.Need-cast-result
 cast-result c = search needs

@@ -6,10 +6,6 @@ use Rattle.leasetable.specs.Folds.{clientHas}
 use borrow.Author.Needs.{needs}
 use Rattle.leasetable.proofs.candidates.does_want.Statement.{statement}
 use Rattle.leasetable.proofs.candidates.does_want.Tie as tie
-use Rattle.leasetable.proofs.candidates.does_want.Reads as reads
-use Rattle.leasetable.proofs.candidates.does_want.Lts as lts
-use Rattle.lease.proofs.key.is_active.Reads as is-active-reads
-use Rattle.leasetable.proofs.candidates.has_client.Reads as has-client-reads
 
 has-client-requires : tie.Need-has-client-requires
 has-client-requires c κs = search needs

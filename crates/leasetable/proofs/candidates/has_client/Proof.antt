@@ -1,5 +1,4 @@
-use borrow.Author.Tests.{eq-eqb, ne-eqb, le-leb, lt-leb, lt-ltb, le-ltb, not-true, not-false}
-use mathlib.Core.Path.{_≡_, sym, _∙_, ap, refl}
+use borrow.Author.Tests.{eq-eqb, ne-eqb}
 use Rattle.leasetable.specs.Folds.{clientHas}
 use borrow.Author.Needs.{needs}
 use Rattle.leasetable.proofs.candidates.has_client.Statement.{statement}

@@ -1,9 +1,8 @@
-use borrow.Author.Tests.{eq-eqb, ne-eqb, le-leb, lt-leb, lt-ltb, le-ltb, not-true, not-false}
 use mathlib.Core.Path.{_≡_, sym, _∙_, ap, refl}
-use Prim.Native.Nat.{_≤_, _-_, _+_}
+use Prim.Native.Nat.{_≤_, _-_}
 use native.Mathlib.Omega.{arith}
 use borrow.Author.Needs.{needs}
-use lib.ListN.{length, take, drop}
+use lib.ListN.{length, take}
 use Rattle.leasetable.proofs.InsertLaws.{whole, starts, kept, dropped, turn-swaps, turn-goes-on, cases}
 use Rattle.leasetable.proofs.candidates.insert.Statement.{statement}
 use Rattle.leasetable.proofs.candidates.insert.Tie as tie

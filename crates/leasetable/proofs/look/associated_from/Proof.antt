@@ -1,11 +1,8 @@
-use borrow.Author.Tests.{eq-eqb, ne-eqb, le-leb, lt-leb, lt-ltb, le-ltb, not-true, not-false}
-use mathlib.Core.Path.{_≡_, sym, _∙_, ap, refl}
+use borrow.Author.Tests.{eq-eqb, ne-eqb}
 use Rattle.leasetable.specs.Folds.{associatedFrom}
 use borrow.Author.Needs.{needs}
 use Rattle.leasetable.proofs.look.associated_from.Statement.{statement}
 use Rattle.leasetable.proofs.look.associated_from.Tie as tie
-use Rattle.leasetable.proofs.look.associated_from.Reads as reads
-use Rattle.leasetable.proofs.look.associated_from.Lts as lts
 
 returns : tie.Need-returns
 unfolding associatedFrom

@@ -1,12 +1,9 @@
-use borrow.Author.Tests.{eq-eqb, ne-eqb, le-leb, lt-leb, lt-ltb, le-ltb, not-true, not-false}
-use mathlib.Core.Path.{_≡_, sym, _∙_, ap, refl}
+use borrow.Author.Tests.{eq-eqb, ne-eqb}
+use mathlib.Core.Path.{sym}
 use Rattle.leasetable.specs.Folds.{recordFor}
 use borrow.Author.Needs.{needs}
 use Rattle.leasetable.proofs.look.record_for.Statement.{statement}
 use Rattle.leasetable.proofs.look.record_for.Tie as tie
-use Rattle.leasetable.proofs.look.record_for.Reads as reads
-use Rattle.leasetable.proofs.look.record_for.Lts as lts
-use Rattle.leasetable.proofs.look.no_lease.Reads as no-lease-reads
 
 no-lease-requires : tie.Need-no-lease-requires
 no-lease-requires c κs = search needs
