@@ -20,6 +20,7 @@ use Rattle.leasequery.specs.Answer.{Outcome, refusal, reply}
 unfoldable pub padded : List ℕ → List ℕ
 padded octets = cond (ltb 64 (length octets)) (replicate 64 0) (laid octets (replicate 64 0))
 
+-- nothing is looked for
 abbrev pub noKey : Key
 noKey = record { kind = 0; htype = 0; len = 0; address = 0; octets = replicate 64 0 }
 
@@ -27,18 +28,21 @@ noKey = record { kind = 0; htype = 0; len = 0; address = 0; octets = replicate 6
 unfoldable pub idKey : List ℕ → Key
 idKey octets = record { kind = 3; htype = 0; len = min (length octets) 65; address = 0; octets = padded octets }
 
+-- the key of what is asked
 abbrev pub keyFor : Asked → Key
 keyFor (refused n) = noKey
 keyFor (byAddress a) = record { kind = 1; htype = 0; len = 0; address = a; octets = replicate 64 0 }
 keyFor (byHardware htype hlen octets) = record { kind = 2; htype = htype; len = hlen; address = 0; octets = padded octets }
 keyFor (byClientId octets) = idKey octets
 
+-- the refusal in what is asked, or 0
 abbrev pub refusalIn : Asked → ℕ
 refusalIn (refused n) = n
 refusalIn (byAddress a) = 0
 refusalIn (byHardware htype hlen octets) = 0
 refusalIn (byClientId octets) = 0
 
+-- the start of the first scan: nothing is found yet
 unfoldable pub noCandidates : Moment → ℕ → Key → Candidates
 noCandidates clock n key =
     record {
@@ -49,18 +53,21 @@ noCandidates clock n key =
       ranks = replicate 4 noRank;
     }
 
+-- the first refusal that applies, or the key, from whether the table keeps its form
 unfoldable pub askedAt : Moment → Bool → List ℕ → ℕ → Asked
 askedAt clock ok query room =
     cond (not (isMoment clock)) (refused 15)
     (cond (not ok) (refused 9)
     (cond (ltb room 648) (refused 8) (asking query)))
 
+-- the reply of a kind that tells of no lease, and that which tells of an active one, with the addresses of the first n ranks
 abbrev pub otherOf : ℕ → ℕ → List ℕ → List ℕ → Outcome
 otherOf kind server query buffer = reply kind (fitting query buffer (otherReply kind server query))
 
 abbrev pub activeOf : Found → ℕ → ℕ → List ℕ → List ℕ → Outcome
 activeOf f n server query buffer = reply 13 (fitting query buffer (activeReply (f .clock) server query (f .best) (listed n (f .ranks))))
 
+-- the answer from what was found
 unfoldable pub concluded : Found → ℕ → List ℕ → List ℕ → Outcome
 concluded f server query buffer =
     cond (not (eqb (f .refusal) 0)) (refusal (f .refusal))

@@ -10,11 +10,9 @@ use octets::write;
 ghost use mathlib.Core.Path.{_≡_};
 ghost use mathlib.Core.Bool.{_&&_};
 ghost use lib.Dec.{leb};
-ghost use lib.ListN.{length};
-ghost use Prim.Native.Nat.{_-_, _≤_, min};
-ghost use Rattle.leasepacket.specs.Query.{part};
-ghost use Rattle.leasepacket.specs.Query.{asked};
-ghost use Rattle.leasequery.specs.Stages.{padded, noKey, keyFor, idKey, refusalIn, noCandidates, askedAt};
+ghost use Prim.Native.Nat.{_-_, min};
+ghost use Rattle.leasepacket.specs.Query.{part, asked};
+ghost use Rattle.leasequery.specs.Stages.{padded, keyFor, idKey, refusalIn, noCandidates, askedAt};
 
 // How many of n octets from a place on there are.
 fn available(len: usize, at: usize, n: usize) -> usize
