@@ -10,6 +10,9 @@ ghost use lib.Dec.{leb};
 ghost use Rattle.octets.specs.Compare.{sameOctets};
 ghost use Rattle.lease.specs.Lease.{activeAt, hasHardware, hasClientId};
 
+// How many octets are compared as one number.
+const LEAD: u8 = 8;
+
 // Whether a lease is active at a moment.
 pub fn is_active(x: Lease, clock: Moment) -> bool
     ensures { λ r. ⌜ r ≡ activeAt clock x ⌝ }
@@ -51,7 +54,7 @@ fn do_16_agree(n: u8, a: [u8; 16], b: [u8; 64]) -> bool
     if lead::lead_16(n, a) != lead::lead_64(n, b) {
         return false;
     }
-    if n <= 8 {
+    if n <= LEAD {
         return true;
     }
     do_16_match(n, a, b)
@@ -64,7 +67,7 @@ fn do_64_agree(n: u8, a: [u8; 64], b: [u8; 64]) -> bool
     if lead::lead_64(n, a) != lead::lead_64(n, b) {
         return false;
     }
-    if n <= 8 {
+    if n <= LEAD {
         return true;
     }
     do_64_match(n, a, b)
