@@ -13,7 +13,7 @@ use Rattle.clock.specs.Clock.{isMoment}
 use Rattle.lease.specs.declared.Lease.{Lease}
 use Rattle.lease.specs.Lease.{noLease, activeAt, rankOf, ranksBefore, wellFormed, lengthsFit, momentsFit, hardwareFits}
 use Rattle.leasepacket.specs.Query.{Asked, refused, byAddress, byHardware, byClientId, asking}
-use Rattle.leasetable.proofs.FormLaws.{and-left, and-right}
+use Rattle.lease.proofs.ListLaws.{and-left, and-right}
 use Rattle.leasetable.specs.Table.{tableFits, risesFrom, those, ranked}
 use Rattle.leasereply.specs.Reply.{activeReply}
 use Rattle.leasequery.specs.Answer.{Outcome, refusal, reply, told, written, hasKey, byAddressOf, byClientOf, leasesOf, answerBy, askedOf, answer}

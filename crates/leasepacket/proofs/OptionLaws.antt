@@ -19,7 +19,7 @@ use Rattle.leasepacket.specs.declared.options.Step.the-variants.{More, D
 use Rattle.leasepacket.specs.Options.{Opt, followed, options, values, Checked, good, faulty, atMostOnce, checked}
 use Rattle.leasepacket.specs.Places.{onceKind, onceId, notedOf, stepOf, value, In}
 
--- a case on a test, with the equation
+-- ---- the octets that belong to an option are passed
 skip-past : (k : ℕ) (l : List ℕ) → length l < k → options k l ≡ none
 unfolding options
 skip-past k [] h = refl

@@ -2,17 +2,17 @@
 use mathlib.Core.Path.{_≡_, refl, sym, _∙_, ap, subst}
 use mathlib.Core.Bool.{_&&_}
 use mathlib.Core.List.{List, [], _∷_, _++_, foldl, map}
-use Prim.Native.Nat.{ℕ, zero, suc, _+_, _≤_, _<_, min}
+use Prim.Native.Nat.{ℕ, zero, suc, _+_, _≤_, min}
 use native.Mathlib.Omega.{arith}
 use lib.ListN.{length, take, drop, length-take, length-append, length-drop, length-map}
-use lib.Seq.{take-all, take-take, take-append-le}
-use lib.Dec.{leb}
+use lib.Seq.{take-take, take-append-le}
 use borrow.Table.Steps.{cases}
-use borrow.Author.Tests.{le-ltb, leb-true, leb-false}
+use borrow.Author.Tests.{le-ltb}
 use Rattle.clock.specs.declared.Moment.{Moment}
 use Rattle.lease.specs.declared.Lease.{Lease}
 use Rattle.lease.specs.declared.Rank.{Rank}
 use Rattle.lease.specs.Lease.{activeAt, rankOf, ranksBefore}
+use Rattle.lease.proofs.ListLaws.{take-min}
 use Rattle.leasetable.specs.declared.client.Key.{Key}
 use Rattle.leasetable.specs.declared.candidates.Candidates.{Candidates}
 use Rattle.leasetable.specs.declared.associated.Associated.{Associated}
@@ -43,11 +43,6 @@ placed-ranks x (y ∷ ys) =
 pub placed-length : (x : Lease) (l : List Lease) → length (placed x l) ≡ suc (length l)
 placed-length x l = sym (length-map (placed x l) rankOf) ∙ ap length (placed-ranks x l) ∙ placed-rank-length (rankOf x) (map rankOf l) ∙ ap suc (length-map l rankOf)
 
-min-take : (l : List Rank) (n m : ℕ) → m ≡ min (length l) n → take m l ≡ take n l
-min-take l n m e = cases (leb (length l) n)
-    (λ t. let h : length l ≤ n = leb-true (length l) n t in let k : length l ≤ m = omega (arith, e) in take-all m l k ∙ sym (take-all n l h))
-    (λ t. let h : n < length l = leb-false (length l) n t in let k : m ≡ n = omega (arith, e) in ap (λ (j : ℕ). take j l) k)
-
 -- ---- what is kept of the leases of a list, which are in order of rank: the first ranks, as many as there are places
 pub record Reached (p kept : ℕ) (ranks : List Rank) (l : List Lease) : Type 0 where
   pub kept-is : kept ≡ min (length l) p
@@ -73,10 +68,10 @@ insert-ranks p k e l rs q g w =
     let d = length-take k l in
     let i : m ≤ p = omega arith in
     let j : m ≤ length b = omega (arith, c, d, q, g) in
-    let z : m ≡ min (length b) p = omega (arith, c, d, q, g) in
+    let z : m ≡ min p (length b) = omega (arith, c, d, q, g) in
     take-take m p (b ++ drop (k + 1) l) i
     ∙ take-append-le m b (drop (k + 1) l) j
-    ∙ min-take b p m z
+    ∙ sym (take-min b p m z)
     ∙ ap (λ (t : List Rank). take p (placedRank e t)) w
     ∙ placed-rank-front p e rs
 

@@ -1,4 +1,4 @@
--- What the scan of the form says of the whole table. Assumes nothing.
+-- What the scan of the form says of the whole table, and what a table of that form says of its records. Assumes nothing.
 use mathlib.Core.Path.{_≡_, refl, _∙_, ap}
 use mathlib.Core.Bool.{Bool, true, false, _&&_}
 use mathlib.Core.List.{List, [], _∷_, foldl}
@@ -8,6 +8,7 @@ use lib.Dec.{ltb, leb}
 use borrow.Author.Tests.{ltb-true}
 use Rattle.lease.specs.declared.Lease.{Lease}
 use Rattle.lease.specs.Lease.{wellFormed}
+use Rattle.lease.proofs.ListLaws.{and-left, and-right}
 use Rattle.leasetable.specs.declared.form.Form.{Form}
 use Rattle.leasetable.specs.Table.{tableFits, risesFrom}
 use Rattle.leasetable.specs.Folds.{formGood, formBad, formStart, formAdd, formTurn}
@@ -39,16 +40,7 @@ pub form-whole : (t : List Lease) → (leb (length t) 256 && (foldl formTurn for
 unfolding tableFits
 form-whole t = ap (λ (b : Bool). leb (length t) 256 && b) (form-law 0 t)
 
--- ---- a table that keeps its form
-pub and-left : (a b : Bool) → (a && b) ≡ true → a ≡ true
-and-left true b e = refl
-and-left false b e = e
-
-pub and-right : (a b : Bool) → (a && b) ≡ true → b ≡ true
-and-right true b e = e
-and-right false b e = cc
-
--- its first record, and those behind it
+-- ---- a table that keeps its form: its first record, and those behind it
 module _ (a : ℕ) (x : Lease) (xs : List Lease) (e : risesFrom a (x ∷ xs) ≡ true) where
   pub rise-first : a < x .address
   unfolding risesFrom

@@ -8,15 +8,14 @@ use native.Mathlib.Numerals.{add-one}
 use native.Mathlib.Omega.{arith}
 use lib.ListN.{length, getD, take, drop, set, length-take, length-set, drop-of-length-le}
 use lib.Seq.{drop-cons, take-suc, take-suc-set, take-set-lt, drop-set-lt, getD-take, take-all, take-at, set-split}
-use Rattle.clock.specs.Clock.{moment}
 use Rattle.lease.specs.declared.Rank.{Rank}
 use Rattle.lease.specs.Lease.{ranksBefore}
-use Rattle.leasetable.specs.Folds.{placedRank, inserted}
+use Rattle.leasetable.specs.Folds.{placedRank, inserted, noRank}
 
 -- `⊎-elim` with the sum first, so that what each case has is known where the case is proved
-pub cases : {A B C : Type 0} → A ⊎ B → (A → C) → (B → C) → C
-cases (inl a) f g = f a
-cases (inr b) f g = g b
+pub either : {A B C : Type 0} → A ⊎ B → (A → C) → (B → C) → C
+either (inl a) f g = f a
+either (inr b) f g = g b
 
 -- where the loop stands at i: the places passed, and what is left to insert into the others
 abbrev at : ℕ → List Rank → Rank → ℕ → List Rank
@@ -25,10 +24,6 @@ at n l c i = take i l ++ placedRank c (drop i (take n l))
 -- and all that stands behind
 abbrev pub whole : ℕ → List Rank → Rank → ℕ → List Rank
 whole n l c i = at n l c i ++ drop (n + 1) l
-
--- what a read past the end of a list of ranks gives
-abbrev pub noRank : Rank
-noRank = record { last = moment 0; address = 0 }
 
 placed-rank-first : (c y : Rank) (ys : List Rank) → ranksBefore c y ≡ true → placedRank c (y ∷ ys) ≡ c ∷ placedRank y ys
 unfolding placedRank

@@ -3,7 +3,7 @@ use Prim.Native.Nat.{_≤_, _-_}
 use native.Mathlib.Omega.{arith}
 use borrow.Author.Needs.{needs}
 use lib.ListN.{length, take}
-use Rattle.leasetable.proofs.InsertLaws.{whole, starts, kept, dropped, turn-swaps, turn-goes-on, cases}
+use Rattle.leasetable.proofs.InsertLaws.{whole, starts, kept, dropped, turn-swaps, turn-goes-on, either}
 use Rattle.leasetable.proofs.candidates.insert.Statement.{statement}
 use Rattle.leasetable.proofs.candidates.insert.Tie as tie
 
@@ -41,7 +41,7 @@ loop-again : tie.Need-loop-again Inv-loop μ-loop
 loop-again c =
     let l = c .before .before .before .before .loop in
     let n = c .before .before .before .before .before .args .kept in
-    cases (c .if1 .came)
+    either (c .if1 .came)
     (λ w.
     let t = turn-swaps 4 n (l .list) (c .if1 .list) (l .left) (c .if1 .left) (l .i) (c .before .before .before .loop-test .taken) (omega arith) (l .inv .1) (sym (c .before .is-before .ensures) ∙ w .0 .taken) (w .1) (w .2) in
     (omega arith, t .0, l .inv .2 ∙ t .1))
