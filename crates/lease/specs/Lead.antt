@@ -1,6 +1,6 @@
 -- Octets as one number. Only the contracts of inner functions cite this.
 use Prim.Native.Nat.{ℕ, _+_, _*_, _-_, _^_, _%_}
-use mathlib.Core.Bool.{Bool, true, false, cond}
+use mathlib.Core.Bool.{cond}
 use mathlib.Core.List.{List, [], _∷_}
 use lib.Dec.{ltb, eqb}
 

@@ -1,6 +1,6 @@
 -- One record of the lease table. Document 01, "Lease table and queries".
 use Prim.Native.Nat.{ℕ}
-use mathlib.Core.Bool.{Bool, true, false, _&&_, _||_, not}
+use mathlib.Core.Bool.{Bool, true, _&&_, _||_, not}
 use mathlib.Core.List.{List, [], _∷_}
 use lib.Dec.{ltb, leb, eqb}
 use lib.ListN.{take, drop, replicate}
@@ -10,6 +10,7 @@ use Rattle.octets.specs.Compare.{sameOctets}
 use Rattle.lease.specs.declared.Lease.{Lease}
 use Rattle.lease.specs.declared.Rank.{Rank}
 
+-- All octets are zero.
 unfoldable pub allZero : List ℕ → Bool
 allZero [] = true
 allZero (x ∷ xs) = eqb x 0 && allZero xs
@@ -45,10 +46,11 @@ hasHardware htype hlen octets x =
 unfoldable pub hasClientId : ℕ → List ℕ → Lease → Bool
 hasClientId n octets x = eqb (x .idlen) n && (leb n 64 && sameOctets (take n (x .id)) (take n octets))
 
--- The later transaction comes first, and of equal ones the lower address.
+-- What a lease is ranked by.
 abbrev pub rankOf : Lease → Rank
 rankOf x = record { last = x .last; address = x .address }
 
+-- The later transaction comes first, and of equal ones the lower address.
 unfoldable pub ranksBefore : Rank → Rank → Bool
 ranksBefore x y = ltb (y .last .0) (x .last .0) || (not (ltb (x .last .0) (y .last .0)) && ltb (x .address) (y .address))
 

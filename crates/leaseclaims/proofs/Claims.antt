@@ -1,22 +1,24 @@
 -- The claims of specs/Claims.antt. Assumes nothing.
-use Prim.Native.Nat.{ℕ, zero, suc, _+_, _≤_, _<_}
+use Prim.Native.Nat.{ℕ, _≤_, _<_}
 use mathlib.Core.Path.{_≡_, refl, sym, ap, _∙_, subst}
-use mathlib.Core.Bool.{Bool, true, false, cond, not, _&&_}
+use mathlib.Core.Bool.{Bool, true, not, _&&_}
 use mathlib.Core.List.{List, [], _∷_, map, headD}
-use mathlib.Core.Logic.{_⊎_, inl, inr}
+use mathlib.Core.Logic.{inl, inr}
 use native.Mathlib.Omega.{arith}
 use lib.Dec.{ltb, leb, eqb}
-use lib.ListN.{length, getD, take, length-take, length-map}
+use lib.ListN.{length, getD, take, length-take}
+use borrow.Table.Steps.{cases}
 use Rattle.clock.specs.declared.Moment.{Moment}
 use Rattle.clock.specs.Clock.{isMoment}
 use Rattle.lease.specs.declared.Lease.{Lease}
-use Rattle.lease.specs.Lease.{noLease, activeAt, hasHardware, hasClientId, rankOf, ranksBefore, wellFormed, lengthsFit, momentsFit, hardwareFits}
+use Rattle.lease.specs.Lease.{noLease, activeAt, rankOf, ranksBefore, wellFormed, lengthsFit, momentsFit, hardwareFits}
 use Rattle.leasepacket.specs.Query.{Asked, refused, byAddress, byHardware, byClientId, asking}
+use Rattle.lease.proofs.ListLaws.{and-left, and-right}
 use Rattle.leasetable.specs.Table.{tableFits, risesFrom, those, ranked}
-use Rattle.leasereply.specs.Reply.{otherReply, activeReply}
+use Rattle.leasereply.specs.Reply.{activeReply}
 use Rattle.leasequery.specs.Answer.{Outcome, refusal, reply, told, written, hasKey, byAddressOf, byClientOf, leasesOf, answerBy, askedOf, answer}
-use Rattle.leaseclaims.specs.Claims.{Call, ActiveAt, NoneActive, UnknownExactly, Demand2, ByClient, NeverUnassigned, Named, NamesTheBest, In, given, Listed, ListsThem, Fits}
-use Rattle.leaseclaims.proofs.ListLaws.{bcase, those-none, none-those, ranked-length, none-before, StandsAt, AllStand, those-stand, ranked-stand, head-stands}
+use Rattle.leaseclaims.specs.Claims.{Call, ActiveAt, NoneActive, UnknownExactly, Demand2, NeverUnassigned, Named, NamesTheBest, In, given, Listed, ListsThem, Fits}
+use Rattle.leaseclaims.proofs.ListLaws.{those-none, none-those, ranked-length, none-before, StandsAt, AllStand, those-stand, ranked-stand, head-stands}
 use Rattle.leaseclaims.proofs.OrderLaws.{ranked-ordered, formed-at, in-ranked, stand-in}
 use Rattle.leasereply.proofs.ReplyLaws.{other-short, active-short}
 use borrow.Author.Tests.{leb-true}
@@ -25,9 +27,9 @@ use borrow.Author.Tests.{leb-true}
 asked-is : (clock : Moment) (t : List Lease) (server : ℕ) (q : List ℕ) (room : ℕ) → told (answer clock t server q room) .refusal ≡ 0 → askedOf clock t q room ≡ asking q
 unfolding answer askedOf answerBy
 asked-is clock t server q room r =
-    bcase (not (isMoment clock)) (λ e. absurd (let z : _≡_ {A = ℕ} 15 0 = rw e at r in omega arith))
-    (λ e. bcase (not (tableFits t)) (λ f. absurd (let z : _≡_ {A = ℕ} 9 0 = rw (e, f) at r in omega arith))
-    (λ f. bcase (ltb room 648) (λ g. absurd (let z : _≡_ {A = ℕ} 8 0 = rw (e, f, g) at r in omega arith))
+    cases (not (isMoment clock)) (λ e. absurd (let z : _≡_ {A = ℕ} 15 0 = rw e at r in omega arith))
+    (λ e. cases (not (tableFits t)) (λ f. absurd (let z : _≡_ {A = ℕ} 9 0 = rw (e, f) at r in omega arith))
+    (λ f. cases (ltb room 648) (λ g. absurd (let z : _≡_ {A = ℕ} 8 0 = rw (e, f, g) at r in omega arith))
     (λ g. rw (e, f, g))))
 
 answer-is : (c : Call) → c .result .refusal ≡ 0 → answer (c .clock) (c .table) (c .server) (c .query) (length (c .buffer)) ≡ answerBy (c .clock) (c .server) (c .query) (asking (c .query)) (c .table)
@@ -39,14 +41,6 @@ answer-is c r =
 -- ---- the leases of a client
 and-both : {a b : Bool} → a ≡ true → b ≡ true → (a && b) ≡ true
 and-both p q = rw (p, q)
-
-and-left : (a b : Bool) → (a && b) ≡ true → a ≡ true
-and-left true b e = refl
-and-left false b e = e
-
-and-right : (a b : Bool) → (a && b) ≡ true → b ≡ true
-and-right true b e = e
-and-right false b e = cc
 
 empty : (l : List Lease) → length l ≡ 0 → l ≡ []
 empty [] e = refl
@@ -164,8 +158,8 @@ table-fits : (c : Call) → c .result .refusal ≡ 0 → tableFits (c .table) �
 unfolding answer askedOf answerBy
 table-fits c r =
     let z : told (answer (c .clock) (c .table) (c .server) (c .query) (length (c .buffer))) .refusal ≡ 0 = sym (ap (λ a. a .refusal) (c .answers)) ∙ r in
-    bcase (not (isMoment (c .clock))) (λ e. absurd (let y : _≡_ {A = ℕ} 15 0 = rw e at z in omega arith))
-    (λ e. bcase (tableFits (c .table)) (λ f. f) (λ f. absurd (let y : _≡_ {A = ℕ} 9 0 = rw (e, f) at z in omega arith)))
+    cases (not (isMoment (c .clock))) (λ e. absurd (let y : _≡_ {A = ℕ} 15 0 = rw e at z in omega arith))
+    (λ e. cases (tableFits (c .table)) (λ f. f) (λ f. absurd (let y : _≡_ {A = ℕ} 9 0 = rw (e, f) at z in omega arith)))
 
 tells-of : (clock : Moment) (server : ℕ) (q : List ℕ) (l : List Lease) → told (byClientOf clock server q l) .kind ≡ 13 → written (byClientOf clock server q l) ≡ activeReply clock server q (headD l noLease) (given l)
 unfolding byClientOf headD
@@ -228,7 +222,7 @@ module _ (clock : Moment) (server : ℕ) (q : List ℕ) (t : List Lease) (r : ri
   address-fits : (f : Lease → Bool) (l : List Lease) → AllStand f t l → told (byAddressOf clock server q l) .length ≤ 648
   unfolding byAddressOf
   address-fits f [] a = other-short 12 server q
-  address-fits f (x ∷ xs) a = bcase (activeAt clock x) (λ e. rw e (active-fits f x [] (a .0) (omega arith))) (λ e. rw e (other-short 11 server q))
+  address-fits f (x ∷ xs) a = cases (activeAt clock x) (λ e. rw e (active-fits f x [] (a .0) (omega arith))) (λ e. rw e (other-short 11 server q))
 
   asked-fits : (key : Asked) → told (answerBy clock server q key t) .length ≤ 648
   unfolding answerBy
@@ -240,8 +234,8 @@ module _ (clock : Moment) (server : ℕ) (q : List ℕ) (t : List Lease) (r : ri
 answer-fits : (clock : Moment) (t : List Lease) (server : ℕ) (q : List ℕ) (room : ℕ) → told (answer clock t server q room) .length ≤ 648
 unfolding answer askedOf answerBy
 answer-fits clock t server q room =
-    bcase (not (isMoment clock)) (λ e. rw e (omega arith))
-    (λ e. bcase (tableFits t) (λ f. asked-fits clock server q t (rises t f) (askedOf clock t q room)) (λ f. rw (e, f) (omega arith)))
+    cases (not (isMoment clock)) (λ e. rw e (omega arith))
+    (λ e. cases (tableFits t) (λ f. asked-fits clock server q t (rises t f) (askedOf clock t q room)) (λ f. rw (e, f) (omega arith)))
 
 pub fits : Fits
 fits c = subst (λ n. n ≤ 648) (sym (ap (λ x. x .length) (c .answers))) (answer-fits (c .clock) (c .table) (c .server) (c .query) (length (c .buffer)))

@@ -1,22 +1,19 @@
 -- Laws of the leases that pass a test, by their places. Assumes nothing.
 use Prim.Native.Nat.{ℕ, zero, suc, _+_, _≤_, _<_}
-use mathlib.Core.Path.{_≡_, refl, sym, ap, _∙_, subst}
-use mathlib.Core.Bool.{Bool, true, false, cond, not, _&&_, _||_}
+use mathlib.Core.Path.{_≡_, refl, ap, _∙_, subst}
+use mathlib.Core.Bool.{Bool, true, false}
 use mathlib.Core.List.{List, [], _∷_, foldl, headD}
 use native.Mathlib.Omega.{arith}
 use native.Mathlib.Nat.{zero-add}
 use lib.Dec.{ltb}
 use lib.ListN.{length, getD}
+use borrow.Table.Steps.{cases}
 use borrow.Author.Tests.{ltb-true, ltb-false}
 use Rattle.lease.specs.declared.Lease.{Lease}
 use Rattle.lease.specs.declared.Rank.{Rank}
 use Rattle.lease.specs.Lease.{noLease, rankOf, ranksBefore}
 use Rattle.leasetable.specs.Table.{those, placed, ranked}
-use Rattle.leasetable.proofs.HuntLaws.{placed-length}
-
-pub bcase : {A : Type 0} (b : Bool) → (b ≡ true → A) → (b ≡ false → A) → A
-bcase true f g = f refl
-bcase false f g = g refl
+use Rattle.leasetable.proofs.CandidateLaws.{placed-length}
 
 pub true-false : {A : Type 0} {b : Bool} → b ≡ true → b ≡ false → A
 true-false p q = absurd (let z : _≡_ {A = ℕ} 0 1 = cc in omega arith)
@@ -26,17 +23,17 @@ pub those-none : (f : Lease → Bool) (t : List Lease) → those f t ≡ [] → 
 unfolding those
 those-none f [] e i h w = omega arith
 those-none f (x ∷ xs) e zero h w = let z : x ∷ those f xs ≡ [] = rw w at e in (let n : suc (length (those f xs)) ≡ 0 = ap length z in omega arith)
-those-none f (x ∷ xs) e (suc i) h w = bcase (f x)
+those-none f (x ∷ xs) e (suc i) h w = cases (f x)
     (λ t. (let z : x ∷ those f xs ≡ [] = rw t at e in let n : suc (length (those f xs)) ≡ 0 = ap length z in omega arith))
     (λ t. those-none f xs (rw t at e) i (omega arith) w)
 
 pub none-those : (f : Lease → Bool) (t : List Lease) → ((i : ℕ) → i < length t → f (getD t i noLease) ≡ true → ⊥) → those f t ≡ []
 unfolding those
 none-those f [] n = refl
-none-those f (x ∷ xs) n = bcase (f x) (λ t. absurd (n 0 (omega arith) t)) (λ t. rw t (none-those f xs (λ i h w. n (suc i) (omega arith) w)))
+none-those f (x ∷ xs) n = cases (f x) (λ t. absurd (n 0 (omega arith) t)) (λ t. rw t (none-those f xs (λ i h w. n (suc i) (omega arith) w)))
 
 -- ---- ranks in order
-pub folded-length : (l m : List Lease) → length (foldl (λ ys x. placed x ys) m l) ≡ length m + length l
+folded-length : (l m : List Lease) → length (foldl (λ ys x. placed x ys) m l) ≡ length m + length l
 folded-length [] m = omega arith
 folded-length (x ∷ xs) m = let e = folded-length xs (placed x m) in let p = placed-length x m in e ∙ omega (arith, p)
 
@@ -51,25 +48,25 @@ NotBefore x y = (x .last .0 ≤ y .last .0) × (x .last .0 ≡ y .last .0 → y 
 pub to-not : (x y : Rank) → ranksBefore x y ≡ false → NotBefore x y
 unfolding ranksBefore
 to-not x y e =
-    bcase (ltb (y .last .0) (x .last .0)) (λ s. absurd (true-false refl (rw s at e)))
-    (λ s. bcase (ltb (x .last .0) (y .last .0)) (λ t. let l : x .last .0 < y .last .0 = ltb-true _ _ t in (omega arith, λ q. omega arith))
-    (λ t. bcase (ltb (x .address) (y .address)) (λ u. absurd (true-false refl (rw (s, t, u) at e)))
+    cases (ltb (y .last .0) (x .last .0)) (λ s. absurd (true-false refl (rw s at e)))
+    (λ s. cases (ltb (x .last .0) (y .last .0)) (λ t. let l : x .last .0 < y .last .0 = ltb-true _ _ t in (omega arith, λ q. omega arith))
+    (λ t. cases (ltb (x .address) (y .address)) (λ u. absurd (true-false refl (rw (s, t, u) at e)))
     (λ u. (ltb-false (y .last .0) (x .last .0) s, λ q. ltb-false (x .address) (y .address) u))))
 
 turned : (x y : Rank) → ranksBefore x y ≡ true → NotBefore y x
 unfolding ranksBefore
 turned x y e =
-    bcase (ltb (y .last .0) (x .last .0)) (λ s. let l : y .last .0 < x .last .0 = ltb-true _ _ s in (omega arith, λ q. omega arith))
-    (λ s. bcase (ltb (x .last .0) (y .last .0)) (λ t. absurd (true-false (rw (s, t) at e) refl))
-    (λ t. bcase (ltb (x .address) (y .address)) (λ u. let l : y .last .0 ≤ x .last .0 = ltb-false _ _ t in let m : x .address < y .address = ltb-true _ _ u in (omega arith, λ q. omega arith))
+    cases (ltb (y .last .0) (x .last .0)) (λ s. let l : y .last .0 < x .last .0 = ltb-true _ _ s in (omega arith, λ q. omega arith))
+    (λ s. cases (ltb (x .last .0) (y .last .0)) (λ t. absurd (true-false (rw (s, t) at e) refl))
+    (λ t. cases (ltb (x .address) (y .address)) (λ u. let l : y .last .0 ≤ x .last .0 = ltb-false _ _ t in let m : x .address < y .address = ltb-true _ _ u in (omega arith, λ q. omega arith))
     (λ u. absurd (true-false (rw (s, t, u) at e) refl))))
 
 from-not : (x y : Rank) → NotBefore x y → ranksBefore x y ≡ false
 unfolding ranksBefore
 from-not x y n =
-    bcase (ltb (y .last .0) (x .last .0)) (λ s. let l : y .last .0 < x .last .0 = ltb-true _ _ s in absurd (omega (arith, n .0)))
-    (λ s. bcase (ltb (x .last .0) (y .last .0)) (λ t. rw (s, t))
-    (λ t. bcase (ltb (x .address) (y .address)) (λ u. let m : x .address < y .address = ltb-true _ _ u in let p : y .last .0 ≤ x .last .0 = ltb-false _ _ t in let q : x .last .0 ≡ y .last .0 = omega (arith, n .0) in absurd (omega (arith, n .1 q)))
+    cases (ltb (y .last .0) (x .last .0)) (λ s. let l : y .last .0 < x .last .0 = ltb-true _ _ s in absurd (omega (arith, n .0)))
+    (λ s. cases (ltb (x .last .0) (y .last .0)) (λ t. rw (s, t))
+    (λ t. cases (ltb (x .address) (y .address)) (λ u. let m : x .address < y .address = ltb-true _ _ u in let p : y .last .0 ≤ x .last .0 = ltb-false _ _ t in let q : x .last .0 ≡ y .last .0 = omega (arith, n .0) in absurd (omega (arith, n .1 q)))
     (λ u. rw (s, t, u))))
 
 trans : (x b r : Rank) → NotBefore x b → NotBefore b r → NotBefore x r
@@ -88,11 +85,11 @@ head l = rankOf (headD l noLease)
 first-placed : (x : Lease) (l : List Lease) → NotBefore (rankOf x) (head (placed x l))
 unfolding placed headD
 first-placed x [] = (omega arith, λ e. omega arith)
-first-placed x (y ∷ ys) = bcase (ranksBefore (rankOf x) (rankOf y)) (λ t. rw t (omega arith, λ e. omega arith)) (λ t. rw t (to-not (rankOf x) (rankOf y) t))
+first-placed x (y ∷ ys) = cases (ranksBefore (rankOf x) (rankOf y)) (λ t. rw t (omega arith, λ e. omega arith)) (λ t. rw t (to-not (rankOf x) (rankOf y) t))
 
 still-first : (x : Lease) (y : Lease) (ys : List Lease) → NotBefore (rankOf y) (head (placed x (y ∷ ys)))
 unfolding placed headD
-still-first x y ys = bcase (ranksBefore (rankOf x) (rankOf y)) (λ t. rw t (turned (rankOf x) (rankOf y) t)) (λ t. rw t (omega arith, λ e. omega arith))
+still-first x y ys = cases (ranksBefore (rankOf x) (rankOf y)) (λ t. rw t (turned (rankOf x) (rankOf y) t)) (λ t. rw t (omega arith, λ e. omega arith))
 
 still : (z : Rank) (x : Lease) (l : List Lease) → 0 < length l → NotBefore z (head l) → NotBefore z (head (placed x l))
 unfolding headD
@@ -107,7 +104,7 @@ first-of : (f : Lease → Bool) (t m : List Lease) (i : ℕ) → i < length t �
 unfolding those
 first-of f [] m i h w = absurd (omega arith)
 first-of f (x ∷ xs) m zero h w = rw w (keeps-first (rankOf x) (those f xs) (placed x m) (omega (arith, placed-length x m)) (first-placed x m))
-first-of f (x ∷ xs) m (suc i) h w = bcase (f x) (λ t. rw t (first-of f xs (placed x m) i (omega arith) w)) (λ t. rw t (first-of f xs m i (omega arith) w))
+first-of f (x ∷ xs) m (suc i) h w = cases (f x) (λ t. rw t (first-of f xs (placed x m) i (omega arith) w)) (λ t. rw t (first-of f xs m i (omega arith) w))
 
 -- no lease that passes the test ranks before the first of the ranked
 pub none-before : (f : Lease → Bool) (t : List Lease) (i : ℕ) → i < length t → f (getD t i noLease) ≡ true → ranksBefore (rankOf (getD t i noLease)) (rankOf (headD (ranked (those f t)) noLease)) ≡ false
@@ -125,7 +122,7 @@ AllStand f t (x ∷ xs) = StandsAt f t x × AllStand f t xs
 placed-stand : (f : Lease → Bool) (t : List Lease) (x : Lease) (l : List Lease) → StandsAt f t x → AllStand f t l → AllStand f t (placed x l)
 unfolding placed
 placed-stand f t x [] p q = (p, tt)
-placed-stand f t x (y ∷ ys) p q = bcase (ranksBefore (rankOf x) (rankOf y)) (λ e. rw e (p, placed-stand f t y ys (q .0) (q .1))) (λ e. rw e (q .0, placed-stand f t x ys p (q .1)))
+placed-stand f t x (y ∷ ys) p q = cases (ranksBefore (rankOf x) (rankOf y)) (λ e. rw e (p, placed-stand f t y ys (q .0) (q .1))) (λ e. rw e (q .0, placed-stand f t x ys p (q .1)))
 
 fold-stand : (f : Lease → Bool) (t l m : List Lease) → AllStand f t l → AllStand f t m → AllStand f t (foldl (λ ys x. placed x ys) m l)
 fold-stand f t [] m p q = q
@@ -138,7 +135,7 @@ shift-stand f y t (x ∷ xs) p = ((suc (p .0 .0), omega (arith, p .0 .1), p .0 .
 pub those-stand : (f : Lease → Bool) (t : List Lease) → AllStand f t (those f t)
 unfolding those
 those-stand f [] = tt
-those-stand f (x ∷ xs) = bcase (f x) (λ w. rw w ((0, omega arith, refl, w), shift-stand f x xs (those f xs) (those-stand f xs))) (λ w. rw w (shift-stand f x xs (those f xs) (those-stand f xs)))
+those-stand f (x ∷ xs) = cases (f x) (λ w. rw w ((0, omega arith, refl, w), shift-stand f x xs (those f xs) (those-stand f xs))) (λ w. rw w (shift-stand f x xs (those f xs) (those-stand f xs)))
 
 pub ranked-stand : (f : Lease → Bool) (t : List Lease) → AllStand f t (ranked (those f t))
 unfolding ranked

@@ -1,19 +1,21 @@
 -- The ranked leases of a table that keeps its form are in order, and are those of the table. Assumes nothing.
-use Prim.Native.Nat.{ℕ, zero, suc, _+_, _≤_, _<_}
-use mathlib.Core.Path.{_≡_, refl, sym, ap, _∙_, subst}
-use mathlib.Core.Bool.{Bool, true, false, cond, not, _&&_, _||_}
+use Prim.Native.Nat.{ℕ, zero, suc, _≤_, _<_}
+use mathlib.Core.Path.{_≡_, refl, sym, subst}
+use mathlib.Core.Bool.{Bool, true, false}
 use mathlib.Core.List.{List, [], _∷_, foldl}
-use mathlib.Core.Logic.{_⊎_, inl, inr}
+use mathlib.Core.Logic.{inl, inr}
 use native.Mathlib.Omega.{arith}
 use lib.Dec.{ltb}
 use lib.ListN.{length, getD}
+use borrow.Table.Steps.{cases}
 use borrow.Author.Tests.{ltb-true, ltb-false, lt-ltb, le-ltb}
 use Rattle.lease.specs.declared.Lease.{Lease}
 use Rattle.lease.specs.declared.Rank.{Rank}
 use Rattle.lease.specs.Lease.{noLease, rankOf, ranksBefore, wellFormed}
 use Rattle.leasetable.specs.Table.{risesFrom, those, placed, ranked}
+use Rattle.leasetable.proofs.FormLaws.{rise-first, rise-form, rise-rest}
 use Rattle.leaseclaims.specs.Claims.{In, Behind, Ordered}
-use Rattle.leaseclaims.proofs.ListLaws.{bcase, true-false, NotBefore, to-not, StandsAt, AllStand}
+use Rattle.leaseclaims.proofs.ListLaws.{true-false, to-not, StandsAt, AllStand}
 
 -- ---- ranking before, in numbers
 abbrev Ahead : Rank → Rank → Type 0
@@ -22,15 +24,15 @@ Ahead x y = (y .last .0 ≤ x .last .0) × (y .last .0 ≡ x .last .0 → x .add
 to-ahead : (x y : Rank) → ranksBefore x y ≡ true → Ahead x y
 unfolding ranksBefore
 to-ahead x y e =
-    bcase (ltb (y .last .0) (x .last .0)) (λ s. let l : y .last .0 < x .last .0 = ltb-true _ _ s in (omega arith, λ q. absurd (omega arith)))
-    (λ s. bcase (ltb (x .last .0) (y .last .0)) (λ t. absurd (true-false (rw (s, t) at e) refl))
-    (λ t. bcase (ltb (x .address) (y .address)) (λ u. (ltb-false (x .last .0) (y .last .0) t, λ q. ltb-true (x .address) (y .address) u))
+    cases (ltb (y .last .0) (x .last .0)) (λ s. let l : y .last .0 < x .last .0 = ltb-true _ _ s in (omega arith, λ q. absurd (omega arith)))
+    (λ s. cases (ltb (x .last .0) (y .last .0)) (λ t. absurd (true-false (rw (s, t) at e) refl))
+    (λ t. cases (ltb (x .address) (y .address)) (λ u. (ltb-false (x .last .0) (y .last .0) t, λ q. ltb-true (x .address) (y .address) u))
     (λ u. absurd (true-false (rw (s, t, u) at e) refl))))
 
 from-ahead : (x y : Rank) → Ahead x y → ranksBefore x y ≡ true
 unfolding ranksBefore
 from-ahead x y a =
-    bcase (ltb (y .last .0) (x .last .0)) (λ s. rw s)
+    cases (ltb (y .last .0) (x .last .0)) (λ s. rw s)
     (λ s. let l : x .last .0 ≤ y .last .0 = ltb-false _ _ s in
     let q : y .last .0 ≡ x .last .0 = omega (arith, a .0) in
     rw (s, le-ltb (x .last .0) (y .last .0) (a .0), lt-ltb (x .address) (y .address) (a .1 q)))
@@ -63,7 +65,7 @@ behind-comp x (y ∷ ys) b = ((λ e. true-false (b .0) e), behind-comp x ys (b .
 behind-placed : (x y : Lease) (l : List Lease) → ranksBefore (rankOf x) (rankOf y) ≡ true → Behind x l → Behind x (placed y l)
 unfolding placed
 behind-placed x y [] e b = (e, tt)
-behind-placed x y (z ∷ zs) e b = bcase (ranksBefore (rankOf y) (rankOf z)) (λ t. rw t (e, behind-placed x z zs (b .0) (b .1))) (λ t. rw t (b .0, behind-placed x y zs e (b .1)))
+behind-placed x y (z ∷ zs) e b = cases (ranksBefore (rankOf y) (rankOf z)) (λ t. rw t (e, behind-placed x z zs (b .0) (b .1))) (λ t. rw t (b .0, behind-placed x y zs e (b .1)))
 
 behind-all : (x y : Lease) (l : List Lease) → ranksBefore (rankOf x) (rankOf y) ≡ true → Behind y l → Behind x l
 behind-all x y [] e b = tt
@@ -73,7 +75,7 @@ placed-ordered : (x : Lease) (l : List Lease) → Ordered l → Comp x l → Ord
 unfolding placed
 placed-ordered x [] o c = (tt, tt)
 placed-ordered x (y ∷ ys) o c =
-    bcase (ranksBefore (rankOf x) (rankOf y))
+    cases (ranksBefore (rankOf x) (rankOf y))
     (λ t. rw t (behind-placed x y ys t (behind-all x y ys t (o .0)), placed-ordered y ys (o .1) (behind-comp y ys (o .0))))
     (λ t. rw t (behind-placed y x ys (c .0 t) (o .0), placed-ordered x ys (o .1) (c .1)))
 
@@ -93,7 +95,7 @@ most-comp a x (y ∷ ys) h m = (lower-first (rankOf x) (rankOf y) (omega (arith,
 most-placed : (a : ℕ) (x : Lease) (l : List Lease) → x .address ≤ a → AtMost a l → AtMost a (placed x l)
 unfolding placed
 most-placed a x [] h m = (h, tt)
-most-placed a x (y ∷ ys) h m = bcase (ranksBefore (rankOf x) (rankOf y)) (λ t. rw t (h, most-placed a y ys (m .0) (m .1))) (λ t. rw t (m .0, most-placed a x ys h (m .1)))
+most-placed a x (y ∷ ys) h m = cases (ranksBefore (rankOf x) (rankOf y)) (λ t. rw t (h, most-placed a y ys (m .0) (m .1))) (λ t. rw t (m .0, most-placed a x ys h (m .1)))
 
 most-more : (a b : ℕ) (l : List Lease) → a ≤ b → AtMost a l → AtMost b l
 most-more a b [] h m = tt
@@ -108,34 +110,13 @@ rises-less : (a b : ℕ) (l : List Lease) → a ≤ b → Rises b l → Rises a 
 rises-less a b [] h r = tt
 rises-less a b (x ∷ xs) h r = (omega (arith, r .0), r .1)
 
-and-left : (a b : Bool) → (a && b) ≡ true → a ≡ true
-and-left true b e = refl
-and-left false b e = e
-
-and-right : (a b : Bool) → (a && b) ≡ true → b ≡ true
-and-right true b e = e
-and-right false b e = cc
-
-module _ (a : ℕ) (x : Lease) (xs : List Lease) (e : risesFrom a (x ∷ xs) ≡ true) where
-  pub rise-first : a < x .address
-  unfolding risesFrom
-  rise-first = ltb-true a (x .address) (and-left (ltb a (x .address)) (wellFormed x) (and-left (ltb a (x .address) && wellFormed x) (risesFrom (x .address) xs) e))
-
-  pub rise-form : wellFormed x ≡ true
-  unfolding risesFrom
-  rise-form = and-right (ltb a (x .address)) (wellFormed x) (and-left (ltb a (x .address) && wellFormed x) (risesFrom (x .address) xs) e)
-
-  pub rise-rest : risesFrom (x .address) xs ≡ true
-  unfolding risesFrom
-  rise-rest = and-right (ltb a (x .address) && wellFormed x) (risesFrom (x .address) xs) e
-
 rises-those : (f : Lease → Bool) (a : ℕ) (t : List Lease) → risesFrom a t ≡ true → Rises a (those f t)
 unfolding those
 rises-those f a [] e = tt
 rises-those f a (x ∷ xs) e =
     let r = rises-those f (x .address) xs (rise-rest a x xs e) in
     let h = rise-first a x xs e in
-    bcase (f x) (λ w. rw w (h, r)) (λ w. rw w (rises-less a (x .address) (those f xs) (omega arith) r))
+    cases (f x) (λ w. rw w (h, r)) (λ w. rw w (rises-less a (x .address) (those f xs) (omega arith) r))
 
 pub ranked-ordered : (f : Lease → Bool) (t : List Lease) → risesFrom 0 t ≡ true → Ordered (ranked (those f t))
 unfolding ranked
@@ -150,13 +131,13 @@ formed-at a (x ∷ xs) e (suc i) h = formed-at (x .address) xs (rise-rest a x xs
 in-self : (x : Lease) (l : List Lease) → In x (placed x l)
 unfolding placed
 in-self x [] = inl refl
-in-self x (y ∷ ys) = bcase (ranksBefore (rankOf x) (rankOf y)) (λ t. rw t (inl refl)) (λ t. rw t (inr (in-self x ys)))
+in-self x (y ∷ ys) = cases (ranksBefore (rankOf x) (rankOf y)) (λ t. rw t (inl refl)) (λ t. rw t (inr (in-self x ys)))
 
 in-placed : (z x : Lease) (l : List Lease) → In z l → In z (placed x l)
 unfolding placed
 in-placed z x [] h = absurd h
-in-placed z x (y ∷ ys) (inl e) = bcase (ranksBefore (rankOf x) (rankOf y)) (λ t. rw t (inr (subst (λ (v : Lease). In v (placed y ys)) (sym e) (in-self y ys)))) (λ t. rw t (inl e))
-in-placed z x (y ∷ ys) (inr h) = bcase (ranksBefore (rankOf x) (rankOf y)) (λ t. rw t (inr (in-placed z y ys h))) (λ t. rw t (inr (in-placed z x ys h)))
+in-placed z x (y ∷ ys) (inl e) = cases (ranksBefore (rankOf x) (rankOf y)) (λ t. rw t (inr (subst (λ (v : Lease). In v (placed y ys)) (sym e) (in-self y ys)))) (λ t. rw t (inl e))
+in-placed z x (y ∷ ys) (inr h) = cases (ranksBefore (rankOf x) (rankOf y)) (λ t. rw t (inr (in-placed z y ys h))) (λ t. rw t (inr (in-placed z x ys h)))
 
 in-kept : (z : Lease) (l m : List Lease) → In z m → In z (foldl (λ ys x. placed x ys) m l)
 in-kept z [] m h = h
@@ -171,7 +152,7 @@ in-those : (f : Lease → Bool) (t : List Lease) (i : ℕ) → i < length t → 
 unfolding those
 in-those f [] i h w = absurd (omega arith)
 in-those f (x ∷ xs) zero h w = rw w (inl refl)
-in-those f (x ∷ xs) (suc i) h w = bcase (f x) (λ t. rw t (inr (in-those f xs i (omega arith) w))) (λ t. rw t (in-those f xs i (omega arith) w))
+in-those f (x ∷ xs) (suc i) h w = cases (f x) (λ t. rw t (inr (in-those f xs i (omega arith) w))) (λ t. rw t (in-those f xs i (omega arith) w))
 
 pub in-ranked : (f : Lease → Bool) (t : List Lease) (i : ℕ) → i < length t → f (getD t i noLease) ≡ true → In (getD t i noLease) (ranked (those f t))
 unfolding ranked

@@ -7,12 +7,12 @@ use Rattle.clock.specs.Clock.{moment, never, isExpiry, isAhead, secondsLeft, se
 use Rattle.octets.specs.Number.{numberAt, bigEndian}
 use Rattle.octets.specs.Compare.{sameOctets}
 use Rattle.lease.specs.declared.Lease.{Lease}
-use Rattle.lease.specs.Lease.{allZero, hardwareFits, lengthsFit, momentsFit, wellFormed, activeAt, hasHardware, hasClientId, ranksBefore}
+use Rattle.lease.specs.Lease.{allZero, hardwareFits, lengthsFit, momentsFit, wellFormed, activeAt, hasClientId, ranksBefore}
 use Rattle.leasepacket.specs.Options.{options, values, checked}
 use Rattle.leasepacket.specs.Query.{anySet, hardware, hardwareSet, keyed, relayed, typed, asking}
 use Rattle.leasetable.specs.Table.{tableFits, risesFrom, those, placed, ranked}
-use Rattle.leasereply.specs.Reply.{fixed, ofLease, flat, otherReply, activeReply}
-use Rattle.leasequery.specs.Answer.{told, written, hasKey, byAddressOf, byClientOf, answerBy, askedOf, answer}
+use Rattle.leasereply.specs.Reply.{fixed, ofLease, flat, activeReply}
+use Rattle.leasequery.specs.Answer.{written, hasKey, byClientOf, answerBy, askedOf, answer}
 
 abbrev leaseAt : ℕ → Lease
 leaseAt address = record {

@@ -1,28 +1,25 @@
 -- The walk of the options by places comes to what the options are. Assumes nothing.
-use Prim.Native.Nat.{ℕ, zero, suc, _+_, _-_, _≤_, _<_}
-use mathlib.Core.Path.{_≡_, refl, sym, ap, subst, _∙_}
+use Prim.Native.Nat.{ℕ, zero, suc, _+_, _≤_, _<_}
+use mathlib.Core.Path.{_≡_, refl, ap, _∙_}
 use mathlib.Core.List.{List, [], _∷_, _++_, append-nil}
 use mathlib.Core.Option.{Option, none, some}
-use mathlib.Core.Bool.{Bool, true, false, cond, and-false}
+use mathlib.Core.Bool.{true, false, and-false}
 use lib.ListN.{length, getD, take, drop, length-drop, drop-of-length-le}
 use lib.Seq.{drop-cons, drop-drop, getD-drop}
 use lib.Dec.{ltb, leb, eqb}
 use native.Mathlib.Omega.{arith}
 use native.Mathlib.Numerals.{add-one}
+use borrow.Table.Steps.{cases}
 use borrow.Author.Tests.{leb-true, leb-false, ltb-true, ltb-false, eqb-true, lt-leb}
 use Rattle.leasepacket.specs.declared.options.Place.{Place}
 use Rattle.leasepacket.specs.declared.options.Place.the-variants.{Absent, At}
 use Rattle.leasepacket.specs.declared.options.Places.{Places}
 use Rattle.leasepacket.specs.declared.options.Step.{Step}
 use Rattle.leasepacket.specs.declared.options.Step.the-variants.{More, Done, Broken}
-use Rattle.leasepacket.specs.Options.{Opt, opt, followed, options, values, Checked, good, faulty, atMostOnce, checked}
+use Rattle.leasepacket.specs.Options.{Opt, followed, options, values, Checked, good, faulty, atMostOnce, checked}
 use Rattle.leasepacket.specs.Places.{onceKind, onceId, notedOf, stepOf, value, In}
 
--- a case on a test, with the equation
-pub bcase : {A : Type 0} (b : Bool) → (b ≡ true → A) → (b ≡ false → A) → A
-bcase true f g = f refl
-bcase false f g = g refl
-
+-- ---- the octets that belong to an option are passed
 skip-past : (k : ℕ) (l : List ℕ) → length l < k → options k l ≡ none
 unfolding options
 skip-past k [] h = refl
@@ -141,8 +138,8 @@ module _ (s : List ℕ) (at len : ℕ) (below : at < length s) (h : at + 2 + len
 
   noted-told : (seen : Places) → In s (seen .kind) × In s (seen .id) → Told s at (left s (seen .kind) (seen .id) (options 0 (drop at s))) (notedOf (getD s at 0) (at + 2) len seen)
   noted-told seen q =
-      bcase (eqb (getD s at 0) 53) (λ e. simp e (kind-told (seen .kind) (seen .id) (q .1) e))
-      (λ d. bcase (eqb (getD s at 0) 61) (λ e. simp (d, e) (id-told (seen .kind) (seen .id) (q .0) d e))
+      cases (eqb (getD s at 0) 53) (λ e. simp e (kind-told (seen .kind) (seen .id) (q .1) e))
+      (λ d. cases (eqb (getD s at 0) 61) (λ e. simp (d, e) (id-told (seen .kind) (seen .id) (q .0) d e))
       (λ e. simp (d, e) (ap (left s (seen .kind) (seen .id)) g ∙ other s (at-place s at len) d e (seen .kind) (seen .id) (options 0 (drop (at + 2 + len) s)), q, below, omega arith)))
 
 past-end : (s : List ℕ) (at : ℕ) (k i : Place) → length s ≤ at → left s k i (options 0 (drop at s)) ≡ faulty
@@ -152,13 +149,13 @@ past-end s at k i h = rw (drop-of-length-le s h)
 pub step-told : (s : List ℕ) (at : ℕ) (seen : Places) → In s (seen .kind) × In s (seen .id) → Told s at (left s (seen .kind) (seen .id) (options 0 (drop at s))) (stepOf s at seen)
 unfolding stepOf
 step-told s at seen q =
-    bcase (leb (length s) at) (λ h. simp h (past-end s at (seen .kind) (seen .id) (leb-true _ _ h)))
+    cases (leb (length s) at) (λ h. simp h (past-end s at (seen .kind) (seen .id) (leb-true _ _ h)))
     (λ h. let below : at < length s = leb-false _ _ h in
-    bcase (eqb (getD s at 0) 255) (λ i. simp (h, i) (ap whole (at-end s at below i) ∙ left-nothing s (seen .kind) (seen .id), q))
-    (λ i. bcase (eqb (getD s at 0) 0) (λ j. simp (h, i, j) (ap whole (at-padding s at below i j), q, below, omega arith))
-    (λ j. bcase (leb (length s) (at + 1))
+    cases (eqb (getD s at 0) 255) (λ i. simp (h, i) (ap whole (at-end s at below i) ∙ left-nothing s (seen .kind) (seen .id), q))
+    (λ i. cases (eqb (getD s at 0) 0) (λ j. simp (h, i, j) (ap whole (at-padding s at below i j), q, below, omega arith))
+    (λ j. cases (leb (length s) (at + 1))
     (λ k. let l : length s ≤ at + 1 = leb-true _ _ k in simp (h, i, j, k) (ap whole (cut-short s at below i j (omega arith))))
-    (λ k. bcase (ltb (length s) (at + 2 + getD s (at + 1) 0))
+    (λ k. cases (ltb (length s) (at + 2 + getD s (at + 1) 0))
     (λ l. simp (h, i, j, k, l) (ap whole (cut-short s at below i j (ltb-true _ _ l))))
     (λ l. simp (h, i, j, k, l) (noted-told s at (getD s (at + 1) 0) below (ltb-false _ _ l) (goes-on s at below i j (ltb-false _ _ l)) seen q))))))
   where

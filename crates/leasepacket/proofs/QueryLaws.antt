@@ -1,10 +1,11 @@
 -- The laws of what a query asks for. Assumes nothing.
-use Prim.Native.Nat.{ℕ, zero, suc, _+_, _≤_, _<_}
-use mathlib.Core.Path.{_≡_, refl, sym, ap, _∙_}
+use Prim.Native.Nat.{ℕ, _+_, _≤_, _<_}
+use mathlib.Core.Path.{_≡_, sym, ap, _∙_}
 use mathlib.Core.List.{List, [], _∷_}
 use mathlib.Core.Bool.{Bool, true, false, not, _||_, and-true}
 use native.Mathlib.Omega.{arith}
 use native.Mathlib.Numerals.{add-one}
+use borrow.Table.Steps.{cases}
 use borrow.Author.Tests.{eq-eqb, ne-eqb, lt-ltb, le-ltb, ltb-false}
 use lib.Dec.{eqb, ltb}
 use lib.ListN.{length, take, drop, getD, length-drop, drop-of-length-le}
@@ -12,7 +13,6 @@ use lib.Seq.{drop-cons, length-take-le}
 use Rattle.octets.specs.Compare.{sameOctets}
 use Rattle.octets.specs.Number.{numberAt}
 use Rattle.leasepacket.specs.Options.{options, Checked, good, faulty, checked}
-use Rattle.leasepacket.proofs.OptionLaws.{bcase}
 use Rattle.octets.proofs.CompareLaws.{same-lengths}
 use Rattle.leasepacket.specs.Query.{anySet, Asked, hardware, hardwareSet, client, clientOr, keys, keyed, relayed, isLeaseQuery, typed, opened, cookie, asking, refused, byAddress, byHardware, byClientId}
 
@@ -70,7 +70,7 @@ module _ (p : List ℕ) where
 
 -- A message type of one octet.
 module _ (p : List ℕ) (at : ℕ) where
-  pub one-octet : at < length p → take 1 (drop at p) ≡ getD p at 0 ∷ []
+  one-octet : at < length p → take 1 (drop at p) ≡ getD p at 0 ∷ []
   one-octet h = rw (drop-cons p at 0 h)
 
   pub type-long : (n : ℕ) → at + n ≤ length p → (n ≡ 1 → ⊥) → sameOctets (take n (drop at p)) (10 ∷ []) ≡ false
@@ -92,12 +92,12 @@ module _ (p : List ℕ) (l : 240 ≤ length p) where
   hardware-sound : Sound p (hardware p)
   unfolding hardware
   hardware-sound =
-      bcase (eqb (getD p 2 0) 0) (λ e. rw e (λ z. omega (arith, z)))
-      (λ e. bcase (ltb 16 (getD p 2 0)) (λ f. rw (e, f) (λ z. omega (arith, z)))
+      cases (eqb (getD p 2 0) 0) (λ e. rw e (λ z. omega (arith, z)))
+      (λ e. cases (ltb 16 (getD p 2 0)) (λ f. rw (e, f) (λ z. omega (arith, z)))
       (λ f. let h : getD p 2 0 ≤ 16 = ltb-false 16 (getD p 2 0) f in rw (e, f) (l, h, part-length p 28 16 (omega arith))))
 
   client-sound : (id : List ℕ) → Sound p (client id)
-  client-sound id = bcase (ltb (length id) 2) (λ e. rw e (λ z. omega (arith, z))) (λ e. rw e l)
+  client-sound id = cases (ltb (length id) 2) (λ e. rw e (λ z. omega (arith, z))) (λ e. rw e l)
 
   clients-sound : (a : ℕ) (ids : List (List ℕ)) → Sound p (clientOr (byAddress a) ids)
   clients-sound a [] = l
@@ -105,16 +105,16 @@ module _ (p : List ℕ) (l : 240 ≤ length p) where
 
   keyed-sound : (a : ℕ) (hw : Bool) (ids : List (List ℕ)) → Sound p (keyed p a hw ids)
   unfolding keyed
-  keyed-sound a true ids = bcase (not (eqb (keys a true ids) 1)) (λ e. rw e (λ z. omega (arith, z))) (λ e. rw e hardware-sound)
-  keyed-sound a false ids = bcase (not (eqb (keys a false ids) 1)) (λ e. rw e (λ z. omega (arith, z))) (λ e. rw e (clients-sound a ids))
+  keyed-sound a true ids = cases (not (eqb (keys a true ids) 1)) (λ e. rw e (λ z. omega (arith, z))) (λ e. rw e hardware-sound)
+  keyed-sound a false ids = cases (not (eqb (keys a false ids) 1)) (λ e. rw e (λ z. omega (arith, z))) (λ e. rw e (clients-sound a ids))
 
   relayed-sound : (ids : List (List ℕ)) → Sound p (relayed p ids)
   unfolding relayed
-  relayed-sound ids = bcase (eqb (numberAt 4 p 24) 0) (λ e. rw e (λ z. omega (arith, z))) (λ e. rw e (keyed-sound (numberAt 4 p 12) (hardwareSet p) ids))
+  relayed-sound ids = cases (eqb (numberAt 4 p 24) 0) (λ e. rw e (λ z. omega (arith, z))) (λ e. rw e (keyed-sound (numberAt 4 p 12) (hardwareSet p) ids))
 
   typed-sound : (kinds ids : List (List ℕ)) → Sound p (typed p kinds ids)
   unfolding typed
-  typed-sound kinds ids = bcase (isLeaseQuery kinds) (λ e. rw e (relayed-sound ids)) (λ e. rw e (λ z. omega (arith, z)))
+  typed-sound kinds ids = cases (isLeaseQuery kinds) (λ e. rw e (relayed-sound ids)) (λ e. rw e (λ z. omega (arith, z)))
 
   opened-sound : (c : Checked) → Sound p (opened p c)
   opened-sound faulty = λ z. omega (arith, z)
@@ -123,8 +123,8 @@ module _ (p : List ℕ) (l : 240 ≤ length p) where
 pub asking-sound : (p : List ℕ) → Sound p (asking p)
 unfolding asking
 asking-sound p =
-    bcase (ltb (length p) 240) (λ e. rw e (λ z. omega (arith, z)))
+    cases (ltb (length p) 240) (λ e. rw e (λ z. omega (arith, z)))
     (λ e. let l : 240 ≤ length p = ltb-false (length p) 240 e in
-    bcase (ltb 1500 (length p) || not (eqb (numberAt 4 p 236) (numberAt 4 cookie 0))) (λ f. rw (e, f) (λ z. omega (arith, z)))
-    (λ f. bcase (not (eqb (getD p 0 0) 1)) (λ g. rw (e, f, g) (λ z. omega (arith, z)))
+    cases (ltb 1500 (length p) || not (eqb (numberAt 4 p 236) (numberAt 4 cookie 0))) (λ f. rw (e, f) (λ z. omega (arith, z)))
+    (λ f. cases (not (eqb (getD p 0 0) 1)) (λ g. rw (e, f, g) (λ z. omega (arith, z)))
     (λ g. rw (e, f, g) (opened-sound p l (checked (options 0 (drop 240 p)))))))

@@ -1,6 +1,6 @@
 -- The options as the inner functions walk them: by places in the packet. Only their contracts cite this.
 use Prim.Native.Nat.{ℕ, _+_, _≤_}
-use mathlib.Core.Bool.{Bool, true, false, cond}
+use mathlib.Core.Bool.{cond}
 use mathlib.Core.List.{List, [], _∷_}
 use lib.Dec.{ltb, leb, eqb}
 use lib.ListN.{length, getD, take, drop}
@@ -13,6 +13,7 @@ use Rattle.leasepacket.specs.declared.options.Walk.{Walk}
 use Rattle.leasepacket.specs.declared.options.Walk.the-variants.{Found, Faulty}
 use Rattle.leasepacket.specs.Options.{Checked, good, faulty}
 
+-- the message type or the client id is noted, unless one was noted before
 abbrev pub onceKind : Place → ℕ → ℕ → Place → Step
 onceKind Absent at len id = More (at + len) (record { kind = At at len; id = id })
 onceKind (At _ _) at len id = Broken
@@ -48,10 +49,12 @@ abbrev pub In : List ℕ → Place → Type 0
 In s Absent = Unit {0}
 In s (At a n) = a + n ≤ length s
 
+-- a walk through the options in the terms of the definition
 abbrev pub meant : List ℕ → Walk → Checked
 meant s (Found p) = good (value s (p .kind)) (value s (p .id))
 meant s Faulty = faulty
 
+-- all places that it found lie inside the packet
 abbrev pub Inside : List ℕ → Walk → Type 0
 Inside s (Found p) = In s (p .kind) × In s (p .id)
 Inside s Faulty = Unit {0}

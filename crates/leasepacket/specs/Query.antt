@@ -1,9 +1,8 @@
 -- What a lease query asks for. Document 01, "Lease table and queries" and "Refusal numbers", 1 to 7 rising.
 use Prim.Native.Nat.{ℕ, _+_}
-use mathlib.Core.Bool.{Bool, true, false, cond, not, _||_}
+use mathlib.Core.Bool.{Bool, false, cond, not, _||_}
 use mathlib.Core.List.{List, [], _∷_}
-use mathlib.Core.Option.{Option}
-use lib.Dec.{ltb, leb, eqb}
+use lib.Dec.{ltb, eqb}
 use lib.ListN.{length, getD, take, drop}
 use Rattle.octets.specs.Number.{numberAt}
 use Rattle.octets.specs.Compare.{sameOctets}
@@ -26,13 +25,6 @@ pub data Asked : Type 0 where
   byAddress : ℕ → Asked
   byHardware : ℕ → ℕ → List ℕ → Asked
   byClientId : List ℕ → Asked
-
--- The code's answer in these terms.
-abbrev pub asked : List ℕ → Query → Asked
-asked p (Refused n) = refused n
-asked p (ByAddress a) = byAddress a
-asked p (ByHardware htype hlen) = byHardware htype hlen (part p 28 16)
-asked p (ByClientId at n) = byClientId (part p at n)
 
 -- Refusal 7: a hardware key with hlen 0 or above 16; a client id of length 0 or 1.
 unfoldable pub hardware : List ℕ → Asked
@@ -85,3 +77,12 @@ asking p =
     cond (ltb (length p) 240 || ltb 1500 (length p) || not (eqb (numberAt 4 p 236) (numberAt 4 cookie 0))) (refused 1)
     (cond (not (eqb (getD p 0 0) 1)) (refused 2)
     (opened p (checked (options 0 (drop 240 p)))))
+
+-- ---- for the contracts of inner functions; no public promise cites these
+
+-- What the code answers, in these terms.
+abbrev pub asked : List ℕ → Query → Asked
+asked p (Refused n) = refused n
+asked p (ByAddress a) = byAddress a
+asked p (ByHardware htype hlen) = byHardware htype hlen (part p 28 16)
+asked p (ByClientId at n) = byClientId (part p at n)

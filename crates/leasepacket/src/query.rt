@@ -4,12 +4,11 @@ use crate::options::Place;
 use crate::options::Walk;
 use octets::number;
 ghost use mathlib.Core.Path.{_≡_};
-ghost use mathlib.Core.Bool.{_||_};
 ghost use lib.ListN.{length, drop};
 ghost use Prim.Native.Nat.{_≤_};
 ghost use Rattle.leasepacket.specs.Options.{options, checked};
 ghost use Rattle.leasepacket.specs.Places.{In, value};
-ghost use Rattle.leasepacket.specs.Query.{part, anySet, asked, hardwareSet, hardware, client, keyed, relayed, typed, opened, asking};
+ghost use Rattle.leasepacket.specs.Query.{anySet, asked, hardwareSet, hardware, keyed, relayed, typed, opened, asking};
 
 // What is asked for. A hardware address is that of the packet; a client id is told by its place and
 // length in the packet.

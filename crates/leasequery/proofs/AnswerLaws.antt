@@ -1,39 +1,34 @@
 -- The scans and the conclusion come to the answer. Assumes nothing.
-use Prim.Native.Nat.{ℕ, zero, suc, _+_, _-_, _≤_, _<_, min}
-use mathlib.Core.Path.{_≡_, refl, sym, ap, _∙_, subst}
-use mathlib.Core.List.{List, [], _∷_, _++_, foldl, map, headD}
-use mathlib.Core.Bool.{Bool, true, false, cond, not, _&&_, _||_, and-false}
+use Prim.Native.Nat.{ℕ, zero, suc, _≤_, _<_, min}
+use mathlib.Core.Path.{_≡_, refl, sym, ap, _∙_}
+use mathlib.Core.List.{List, [], _∷_, foldl, map, headD}
+use mathlib.Core.Bool.{Bool, true, false, cond, not, _&&_, and-false}
 use native.Mathlib.Omega.{arith}
 use lib.Dec.{leb, ltb, eqb}
 use lib.ListN.{length, take, drop, replicate, length-replicate}
-use lib.Seq.{take-append-le, take-all}
-use borrow.Author.Tests.{leb-true, leb-false, lt-ltb, le-ltb, lt-leb, le-leb, ltb-false, not-false}
+use lib.Seq.{take-append-le}
+use borrow.Table.Steps.{cases}
+use borrow.Author.Tests.{leb-true, leb-false, lt-ltb, le-ltb, ltb-false}
 use Rattle.clock.specs.declared.Moment.{Moment}
 use Rattle.clock.specs.Clock.{isMoment}
 use Rattle.octets.specs.Write.{laid}
-use Rattle.octets.specs.Compare.{sameOctets}
 use Rattle.lease.specs.declared.Lease.{Lease}
 use Rattle.lease.specs.declared.Rank.{Rank}
 use Rattle.lease.specs.Lease.{noLease, activeAt, hasHardware, hasClientId, rankOf}
-use Rattle.leasepacket.specs.Query.{Asked, refused, byAddress, byHardware, byClientId, asking}
+use Rattle.leasepacket.specs.Query.{Asked, refused, byAddress, byHardware, byClientId}
 use Rattle.leasepacket.proofs.QueryLaws.{Sound, asking-sound}
 use Rattle.leasetable.specs.declared.client.Key.{Key}
-use Rattle.leasetable.specs.declared.hunt.Hunt.{Hunt}
-use Rattle.leasetable.specs.declared.fetch.Fetch.{Fetch}
+use Rattle.leasetable.specs.declared.record.Record.{Record}
 use Rattle.leasetable.specs.declared.look.Found.{Found}
 use Rattle.leasetable.specs.Table.{tableFits, risesFrom, those, placed, ranked}
-use Rattle.leasetable.specs.Folds.{formStart, formTurn, clientHas, fetchTurn, noRank, gathering, fetching, found, looked}
+use Rattle.leasetable.specs.Folds.{formStart, formTurn, clientHas, noRank, associatedFrom, recordFor, found, looked}
 use Rattle.leasetable.proofs.FormLaws.{form-whole}
-use Rattle.leasetable.proofs.HuntLaws.{reached-none}
-use Rattle.leasetable.proofs.LookLaws.{Looked, client-looked, fetch-fold, Above, above-those}
+use Rattle.leasetable.proofs.CandidateLaws.{reached-none}
+use Rattle.leasetable.proofs.LookLaws.{Looked, client-looked, record-fold, Above, above-those}
 use Rattle.leasereply.specs.Reply.{otherReply, activeReply, addressesOf, listed, fitting}
-use Rattle.leasequery.specs.Answer.{Outcome, refusal, reply, hasKey, byAddressOf, byClientOf, leasesOf, answerBy, askedOf, answer}
-use Rattle.leasequery.specs.Stages.{padded, idKey, refusalIn, keyFor, huntStart, askedAt, otherOf, activeOf, concluded}
+use Rattle.leasequery.specs.Answer.{refusal, reply, hasKey, byAddressOf, byClientOf, leasesOf, answerBy, askedOf, answer}
+use Rattle.leasequery.specs.Stages.{padded, idKey, refusalIn, keyFor, noCandidates, askedAt, otherOf, activeOf, concluded}
 use Rattle.leasequery.proofs.StageLaws.{padded-laid, con-refused, con-unknown, con-client, con-active, con-unassigned}
-
-bcase : {A : Type 0} (b : Bool) → (b ≡ true → A) → (b ≡ false → A) → A
-bcase true f g = f refl
-bcase false f g = g refl
 
 -- ---- keys
 padded-front : (o : List ℕ) (n : ℕ) → length o ≤ 64 → n ≤ length o → take n (padded o) ≡ take n o
@@ -47,7 +42,7 @@ hardware-key htype hlen o x h e = rw (padded-front o hlen (omega arith) (omega a
 id-key : (o : List ℕ) (x : Lease) → clientHas (idKey o) x ≡ hasKey (byClientId o) x
 unfolding clientHas hasKey hasClientId idKey
 id-key o x =
-    bcase (leb (length o) 64)
+    cases (leb (length o) 64)
     (λ t. let h : length o ≤ 64 = leb-true (length o) 64 t in let m : min (length o) 65 ≡ length o = omega arith in rw (m, padded-front o (length o) h (omega arith)))
     (λ t. let h : 64 < length o = leb-false (length o) 64 t in let m : min (length o) 65 ≡ 65 = omega arith in rw (m, t) (rw (and-false (eqb (x .idlen) 65), and-false (eqb (x .idlen) (length o)))))
 
@@ -100,16 +95,16 @@ module _ (clock : Moment) (server : ℕ) (ps os : List ℕ) (a : 240 ≤ length 
       ∙ active-is h (h .kept) x (take 63 (map (λ z. z .address) (x ∷ y ∷ ys))) (r .clock-is) (r .best-is)
       (listed-more (h .kept) (h .ranks) (omega (arith, r .kept-is)) (omega (arith, r .kept-is)) ∙ ap addressesOf (r .ranks-are) ∙ map-take-addresses 63 (x ∷ y ∷ ys))
 
-  by-client : (key : Asked) (k : Key) → 2 ≤ k .kind → ((x : Lease) → clientHas k x ≡ hasKey key x) → (t : List Lease) → risesFrom 0 t ≡ true → concluded (looked (huntStart clock 0 k) t) server ps os ≡ byClientOf clock server ps (ranked (leasesOf clock server ps key t))
-  unfolding ranked huntStart
+  by-client : (key : Asked) (k : Key) → 2 ≤ k .kind → ((x : Lease) → clientHas k x ≡ hasKey key x) → (t : List Lease) → risesFrom 0 t ≡ true → concluded (looked (noCandidates clock 0 k) t) server ps os ≡ byClientOf clock server ps (ranked (leasesOf clock server ps key t))
+  unfolding ranked noCandidates
   by-client key k c e t f =
-      client-out (k .kind) (λ z. omega (arith, c, z)) (looked (huntStart clock 0 k) t) (foldl (λ ys x. placed x ys) [] (those (λ x. activeAt clock x && clientHas k x) t))
-      (client-looked 0 clock k t (huntStart clock 0 k) refl refl refl (reached-none 4 (replicate 4 noRank) (length-replicate {A = Rank} 4 noRank)) c f)
+      client-out (k .kind) (λ z. omega (arith, c, z)) (looked (noCandidates clock 0 k) t) (foldl (λ ys x. placed x ys) [] (those (λ x. activeAt clock x && clientHas k x) t))
+      (client-looked 0 clock k t (noCandidates clock 0 k) refl refl refl (reached-none 4 (replicate 4 noRank) (length-replicate {A = Rank} 4 noRank)) c f)
       ∙ ap (λ (l : List Lease). byClientOf clock server ps (foldl (λ ys x. placed x ys) [] l)) (those-alike (λ x. activeAt clock x && clientHas k x) (λ x. activeAt clock x && hasKey key x) (λ x. ap (λ (w : Bool). activeAt clock x && w) (e x)) t)
 
   -- ---- by address
   module _ (address : ℕ) where
-    abbrev f₀ : Fetch
+    abbrev f₀ : Record
     f₀ = record { none = false; address = address; best = noLease }
 
     address-out : (h : Found) (l : List Lease) → h .refusal ≡ 0 → h .clock ≡ clock → h .kind ≡ 1 → h .best ≡ headD l noLease → Above l → concluded h server ps os ≡ byAddressOf clock server ps l
@@ -117,22 +112,22 @@ module _ (clock : Moment) (server : ℕ) (ps os : List ℕ) (a : 240 ≤ length 
     address-out h [] r c k e p = con-unknown h server ps os r (ap (λ (x : Lease). x .address) e) ∙ other-is 12
     address-out h (x ∷ xs) r c k e p =
         let w : activeAt (h .clock) (h .best) ≡ activeAt clock x = ap (λ (m : Moment). activeAt m (h .best)) c ∙ ap (activeAt clock) e in
-        bcase (activeAt clock x)
+        cases (activeAt clock x)
         (λ t. rw t (con-active h server ps os r (there h x e p) k (w ∙ t) ∙ active-is h 0 x [] c e refl))
         (λ t. rw t (con-unassigned h server ps os r (there h x e p) k (w ∙ t) ∙ other-is 11))
 
-    by-address : (t : List Lease) → risesFrom 0 t ≡ true → concluded (looked (huntStart clock 0 (keyFor (byAddress address))) t) server ps os ≡ byAddressOf clock server ps (those (hasKey (byAddress address)) t)
-    unfolding hasKey huntStart looked gathering fetching found
-    by-address t f = address-out (looked (huntStart clock 0 (keyFor (byAddress address))) t) (those (hasKey (byAddress address)) t) refl refl refl (fetch-fold t 0 f₀ f) (above-those (λ x. eqb (x .address) address) t 0 f)
+    by-address : (t : List Lease) → risesFrom 0 t ≡ true → concluded (looked (noCandidates clock 0 (keyFor (byAddress address))) t) server ps os ≡ byAddressOf clock server ps (those (hasKey (byAddress address)) t)
+    unfolding hasKey noCandidates looked associatedFrom recordFor found
+    by-address t f = address-out (looked (noCandidates clock 0 (keyFor (byAddress address))) t) (those (hasKey (byAddress address)) t) refl refl refl (record-fold t 0 f₀ f) (above-those (λ x. eqb (x .address) address) t 0 f)
 
 -- ---- the whole
 module _ (clock : Moment) (server : ℕ) (ps os : List ℕ) (t : List Lease) where
-  refused-is : (n : ℕ) → Sound ps (refused n) → concluded (looked (huntStart clock n (keyFor (refused n))) t) server ps os ≡ refusal n
-  unfolding looked gathering found huntStart
-  refused-is n s = con-refused (looked (huntStart clock n (keyFor (refused n))) t) server ps os s
+  refused-is : (n : ℕ) → Sound ps (refused n) → concluded (looked (noCandidates clock n (keyFor (refused n))) t) server ps os ≡ refusal n
+  unfolding looked associatedFrom found noCandidates
+  refused-is n s = con-refused (looked (noCandidates clock n (keyFor (refused n))) t) server ps os s
 
-  by-asked : (key : Asked) → Sound ps key → ((refusalIn key ≡ 0) → (648 ≤ length os) × (risesFrom 0 t ≡ true)) → concluded (looked (huntStart clock (refusalIn key) (keyFor key)) t) server ps os ≡ answerBy clock server ps key t
-  unfolding answerBy huntStart
+  by-asked : (key : Asked) → Sound ps key → ((refusalIn key ≡ 0) → (648 ≤ length os) × (risesFrom 0 t ≡ true)) → concluded (looked (noCandidates clock (refusalIn key) (keyFor key)) t) server ps os ≡ answerBy clock server ps key t
+  unfolding answerBy noCandidates
   by-asked (refused n) s b = refused-is n s
   by-asked (byAddress a) s b = by-address clock server ps os s (b refl .0) a t (b refl .1)
   by-asked (byHardware htype hlen o) s b = by-client clock server ps os (s .0) (b refl .0) (byHardware htype hlen o) (keyFor (byHardware htype hlen o)) (omega arith) (λ x. hardware-key htype hlen o x (s .1) (s .2)) t (b refl .1)
@@ -151,9 +146,9 @@ fit-rises t e = go (leb (length t) 256) (risesFrom 0 t) e
 asked-sound : (clock : Moment) (t : List Lease) (ps : List ℕ) (room : ℕ) → Sound ps (askedOf clock t ps room) × (refusalIn (askedOf clock t ps room) ≡ 0 → (648 ≤ room) × (risesFrom 0 t ≡ true))
 unfolding askedOf
 asked-sound clock t ps room =
-    bcase (not (isMoment clock)) (λ e. rw e ((λ z. omega (arith, z)), (λ z. absurd (omega (arith, z)))))
-    (λ e. bcase (not (tableFits t)) (λ f. rw (e, f) ((λ z. omega (arith, z)), (λ z. absurd (omega (arith, z)))))
-    (λ f. bcase (ltb room 648) (λ g. rw (e, f, g) ((λ z. omega (arith, z)), (λ z. absurd (omega (arith, z)))))
+    cases (not (isMoment clock)) (λ e. rw e ((λ z. omega (arith, z)), (λ z. absurd (omega (arith, z)))))
+    (λ e. cases (not (tableFits t)) (λ f. rw (e, f) ((λ z. omega (arith, z)), (λ z. absurd (omega (arith, z)))))
+    (λ f. cases (ltb room 648) (λ g. rw (e, f, g) ((λ z. omega (arith, z)), (λ z. absurd (omega (arith, z)))))
     (λ g. rw (e, f, g) (asking-sound ps, (λ z. (ltb-false room 648 g, fit-rises t f))))))
 
 abbrev pub keptForm : List Lease → Bool
@@ -163,9 +158,9 @@ same-asked : (clock : Moment) (t : List Lease) (ps : List ℕ) (room : ℕ) → 
 unfolding askedAt askedOf
 same-asked clock t ps room = rw (form-whole t)
 
-pub answered : (clock : Moment) (ys : List Lease) (server : ℕ) (ps os : List ℕ) → concluded (looked (huntStart clock (refusalIn (askedAt clock (keptForm ys) ps (length os))) (keyFor (askedAt clock (keptForm ys) ps (length os)))) ys) server ps os ≡ answer clock ys server ps (length os)
+pub answered : (clock : Moment) (ys : List Lease) (server : ℕ) (ps os : List ℕ) → concluded (looked (noCandidates clock (refusalIn (askedAt clock (keptForm ys) ps (length os))) (keyFor (askedAt clock (keptForm ys) ps (length os)))) ys) server ps os ≡ answer clock ys server ps (length os)
 unfolding answer
 answered clock ys server ps os =
     let s = asked-sound clock ys ps (length os) in
-    ap (λ (key : Asked). concluded (looked (huntStart clock (refusalIn key) (keyFor key)) ys) server ps os) (same-asked clock ys ps (length os))
+    ap (λ (key : Asked). concluded (looked (noCandidates clock (refusalIn key) (keyFor key)) ys) server ps os) (same-asked clock ys ps (length os))
     ∙ by-asked clock server ps os ys (askedOf clock ys ps (length os)) (s .0) (s .1)

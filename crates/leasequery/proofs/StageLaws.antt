@@ -1,20 +1,19 @@
 -- The laws of what the inner functions hand on. Assumes nothing.
-use Prim.Native.Nat.{ℕ, zero, suc, _+_, _-_, _≤_, _<_, min}
+use Prim.Native.Nat.{ℕ, _-_, _≤_, _<_, min}
 use mathlib.Core.Path.{_≡_, refl, sym, ap, _∙_}
-use mathlib.Core.List.{List, [], _∷_, _++_}
-use mathlib.Core.Bool.{Bool, true, false, cond, not}
+use mathlib.Core.List.{List, [], _∷_}
+use mathlib.Core.Bool.{true, false}
 use native.Mathlib.Omega.{arith}
-use lib.Dec.{leb, ltb, eqb}
-use lib.ListN.{length, take, drop, replicate, length-take, length-drop, length-replicate}
-use lib.Seq.{take-all}
-use borrow.Author.Tests.{leb-true, leb-false, lt-ltb, le-ltb, eq-eqb, ne-eqb}
+use lib.ListN.{length, drop, replicate, length-take, length-drop, length-replicate}
+use borrow.Author.Tests.{lt-ltb, le-ltb, eq-eqb, ne-eqb}
 use Rattle.octets.specs.Write.{laid, Laid}
 use Rattle.octets.proofs.WriteLaws.{written, put-front, laid-nothing}
 use Rattle.lease.specs.Lease.{activeAt}
+use Rattle.lease.proofs.ListLaws.{take-min}
 use Rattle.leasepacket.specs.Query.{part}
 use Rattle.leasetable.specs.declared.look.Found.{Found}
-use Rattle.leasequery.specs.Answer.{Outcome, refusal}
-use Rattle.leasequery.specs.Stages.{padded, idKey, otherOf, activeOf, concluded}
+use Rattle.leasequery.specs.Answer.{refusal}
+use Rattle.leasequery.specs.Stages.{padded, otherOf, activeOf, concluded}
 
 -- ---- octets of the packet
 pub part-length : (p : List ℕ) (at n : ℕ) → length (part p at n) ≡ min n (length p - at)
@@ -22,16 +21,7 @@ part-length p at n = length-take n (drop at p) ∙ ap (min n) (length-drop at p)
 
 -- no more is taken than there is
 pub part-available : (p : List ℕ) (at n m : ℕ) → m ≡ min n (length p - at) → part p at n ≡ part p at m
-part-available p at n m q = go (leb n (length p - at)) refl
-  where
-    go : (b : Bool) → leb n (length p - at) ≡ b → take n (drop at p) ≡ take m (drop at p)
-    go true t = let h : n ≤ length p - at = leb-true n (length p - at) t in let k : n ≡ m = omega (arith, q) in ap (λ (j : ℕ). take j (drop at p)) k
-    go false t =
-        let h : length p - at < n = leb-false n (length p - at) t in
-        let l = length-drop at p in
-        let a : length (drop at p) ≤ n = omega (arith, l) in
-        let b : length (drop at p) ≤ m = omega (arith, l, q) in
-        take-all n (drop at p) a ∙ sym (take-all m (drop at p) b)
+part-available p at n m q = take-min (drop at p) n m (q ∙ ap (min n) (sym (length-drop at p)))
 
 pub padded-over : (o : List ℕ) → 64 < length o → replicate 64 0 ≡ padded o
 unfolding padded

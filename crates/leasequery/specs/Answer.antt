@@ -1,6 +1,6 @@
 -- The answer to a lease query. Document 01, "Lease table and queries".
 use Prim.Native.Nat.{ℕ}
-use mathlib.Core.Bool.{Bool, true, false, cond, not, _&&_}
+use mathlib.Core.Bool.{Bool, false, cond, not, _&&_}
 use mathlib.Core.List.{List, [], _∷_, map}
 use lib.Dec.{ltb, eqb}
 use lib.ListN.{length, take}
@@ -60,6 +60,7 @@ module _ (clock : Moment) (server : ℕ) (query : List ℕ) where
   abbrev pub leasesOf : Asked → List Lease → List Lease
   leasesOf key table = those (λ x. activeAt clock x && hasKey key x) table
 
+  -- By what is asked: a refusal stands, and a key is looked for in the table.
   unfoldable pub answerBy : Asked → List Lease → Outcome
   answerBy (refused n) table = refusal n
   answerBy (byAddress a) table = byAddressOf (those (hasKey (byAddress a)) table)

@@ -3,18 +3,16 @@ use clock::Moment;
 use lease::Rank;
 use leasepacket::query;
 use leasepacket::query::Query;
+use leasetable::candidates::Candidates;
 use leasetable::client::Key;
 use leasetable::form::Form;
-use leasetable::hunt::Hunt;
 use octets::write;
 ghost use mathlib.Core.Path.{_≡_};
 ghost use mathlib.Core.Bool.{_&&_};
 ghost use lib.Dec.{leb};
-ghost use lib.ListN.{length};
-ghost use Prim.Native.Nat.{_-_, _≤_, min};
-ghost use Rattle.leasepacket.specs.Query.{part};
-ghost use Rattle.leasepacket.specs.Query.{asked};
-ghost use Rattle.leasequery.specs.Stages.{padded, noKey, keyFor, idKey, refusalIn, huntStart, askedAt};
+ghost use Prim.Native.Nat.{_-_, min};
+ghost use Rattle.leasepacket.specs.Query.{part, asked};
+ghost use Rattle.leasequery.specs.Stages.{padded, keyFor, idKey, refusalIn, noCandidates, askedAt};
 
 // How many of n octets from a place on there are.
 fn available(len: usize, at: usize, n: usize) -> usize
@@ -107,15 +105,15 @@ fn refusal_of(p: &[u8], q: Query) -> u32
 }
 
 // Nothing is found yet.
-fn start(clock: Moment, refusal: u32, key: Key) -> Hunt
-    ensures { λ r. ⌜ r ≡ huntStart clock refusal key ⌝ }
+fn start(clock: Moment, refusal: u32, key: Key) -> Candidates
+    ensures { λ r. ⌜ r ≡ noCandidates clock refusal key ⌝ }
 {
     let blank = Rank {
         last: Moment(0),
         address: 0,
     };
     let ranks = [blank; 4];
-    Hunt {
+    Candidates {
         refusal,
         clock,
         key,
@@ -151,8 +149,8 @@ fn first_refusal(clock: Moment, ok: bool, p: &[u8], room: usize) -> Query
 }
 
 // What is looked for.
-pub fn ask(clock: Moment, table: Form, count: usize, p: &[u8], room: usize) -> Hunt
-    ensures { λ r. ⌜ r ≡ huntStart clock (refusalIn (askedAt clock (leb count 256 && table .ok) (now (p .entry)) room)) (keyFor (askedAt clock (leb count 256 && table .ok) (now (p .entry)) room)) ⌝ }
+pub fn ask(clock: Moment, table: Form, count: usize, p: &[u8], room: usize) -> Candidates
+    ensures { λ r. ⌜ r ≡ noCandidates clock (refusalIn (askedAt clock (leb count 256 && table .ok) (now (p .entry)) room)) (keyFor (askedAt clock (leb count 256 && table .ok) (now (p .entry)) room)) ⌝ }
 {
     let ok = does_fit(table, count);
     let q = first_refusal(clock, ok, p, room);

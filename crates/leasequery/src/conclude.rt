@@ -34,37 +34,37 @@ fn other(kind: u8, server: u32, query: &[u8], buf: &mut [u8]) -> LeaseAnswer
 }
 
 // LEASEACTIVE, with the addresses of the first n ranks where they are two or more.
-fn active(h: Found, n: usize, server: u32, query: &[u8], buf: &mut [u8]) -> LeaseAnswer
-    ensures { λ r. ⌜ (r ≡ told (activeOf h n server (now (query .entry)) (now (buf .entry)))) × (now (buf .exit) ≡ laid (written (activeOf h n server (now (query .entry)) (now (buf .entry)))) (now (buf .entry))) ⌝ }
+fn active(f: Found, n: usize, server: u32, query: &[u8], buf: &mut [u8]) -> LeaseAnswer
+    ensures { λ r. ⌜ (r ≡ told (activeOf f n server (now (query .entry)) (now (buf .entry)))) × (now (buf .exit) ≡ laid (written (activeOf f n server (now (query .entry)) (now (buf .entry)))) (now (buf .entry))) ⌝ }
 {
-    let clock = h.clock;
-    let best = h.best;
-    let ranks = h.ranks;
+    let clock = f.clock;
+    let best = f.best;
+    let ranks = f.ranks;
     let len = reply::write_active(buf, clock, server, query, best, ranks, n);
     replied(13, len)
 }
 
 // The whole answer.
-pub fn conclude(h: Found, server: u32, query: &[u8], buf: &mut [u8]) -> LeaseAnswer
-    ensures { λ r. ⌜ (r ≡ told (concluded h server (now (query .entry)) (now (buf .entry)))) × (now (buf .exit) ≡ laid (written (concluded h server (now (query .entry)) (now (buf .entry)))) (now (buf .entry))) ⌝ }
+pub fn conclude(f: Found, server: u32, query: &[u8], buf: &mut [u8]) -> LeaseAnswer
+    ensures { λ r. ⌜ (r ≡ told (concluded f server (now (query .entry)) (now (buf .entry)))) × (now (buf .exit) ≡ laid (written (concluded f server (now (query .entry)) (now (buf .entry)))) (now (buf .entry))) ⌝ }
 {
-    if h.refusal != 0 {
+    if f.refusal != 0 {
         return LeaseAnswer {
-            refusal: h.refusal,
+            refusal: f.refusal,
             kind: 0,
             length: 0,
         };
     }
-    let best = h.best;
+    let best = f.best;
     if best.address == 0 {
         return other(12, server, query, buf);
     }
-    if h.kind != 1 {
-        return active(h, h.kept, server, query, buf);
+    if f.kind != 1 {
+        return active(f, f.kept, server, query, buf);
     }
-    let clock = h.clock;
+    let clock = f.clock;
     if key::is_active(best, clock) {
-        return active(h, 0, server, query, buf);
+        return active(f, 0, server, query, buf);
     }
     other(11, server, query, buf)
 }

@@ -1,15 +1,15 @@
 -- The laws of a reply's octets. Assumes nothing.
-use Prim.Native.Nat.{ℕ, zero, suc, _+_, _*_, _/_, _%_, _≤_, _<_, min}
+use Prim.Native.Nat.{ℕ, _+_, _*_, _/_, _%_, _≤_, _<_}
 use mathlib.Core.Path.{_≡_, refl, sym, ap, _∙_}
-use mathlib.Core.List.{List, [], _∷_, _++_, append-assoc, append-nil, map}
+use mathlib.Core.List.{List, [], _∷_, _++_, append-assoc, append-nil}
 use mathlib.Core.Bool.{Bool, true, false, cond, _||_}
 use native.Mathlib.Omega.{arith}
 use native.Mathlib.Nat.{zero-add, mod-add-div, add-mul-mod-self-left, add-mul-div-left}
 use native.Mathlib.Numerals.{add-one}
-use lib.ListN.{length, take, drop, getD, replicate, length-append, length-take, length-replicate, length-map}
-use lib.Dec.{leb, ltb, lit<}
-use borrow.Author.Tests.{leb-true, leb-false, lt-ltb, le-ltb, ltb-false}
-use lib.Seq.{take-suc, length-take-le, take-all}
+use lib.ListN.{length, take, drop, getD, length-append, length-take, length-map}
+use lib.Dec.{ltb, lit<}
+use borrow.Author.Tests.{lt-ltb, le-ltb, ltb-false}
+use lib.Seq.{take-suc, length-take-le}
 use Rattle.clock.specs.declared.Moment.{Moment}
 use Rattle.clock.specs.Clock.{moment, secondsLeft, secondsSince}
 use Rattle.octets.specs.Number.{bigEndian}
@@ -18,7 +18,7 @@ use Rattle.octets.proofs.NumberLaws.{length-big-endian}
 use Rattle.octets.proofs.WriteLaws.{nothing, more, put-front}
 use Rattle.lease.specs.declared.Lease.{Lease}
 use Rattle.lease.specs.declared.Rank.{Rank}
-use Rattle.leasepacket.specs.Query.{part, cookie}
+use Rattle.leasepacket.specs.Query.{part}
 use Rattle.leasereply.specs.Reply.{fixed, option, optional, ofLease, flat, otherReply, activeReply, addressesOf, listed, fitting}
 
 -- ---- options that may be left out
@@ -38,7 +38,7 @@ unfolding flat
 flat-behind [] x = append-nil (bigEndian 4 x)
 flat-behind (y ∷ ys) x = ap (λ (l : List ℕ). bigEndian 4 y ++ l) (flat-behind ys x) ∙ sym (append-assoc (bigEndian 4 y) (flat ys) (bigEndian 4 x))
 
-pub flat-length : (xs : List ℕ) → length (flat xs) ≡ 4 * length xs
+flat-length : (xs : List ℕ) → length (flat xs) ≡ 4 * length xs
 unfolding flat
 flat-length [] = refl
 flat-length (x ∷ xs) = length-append (bigEndian 4 x) (flat xs) ∙ (let h = flat-length xs in let k = length-big-endian 4 x in omega arith)
@@ -56,14 +56,6 @@ flat-more v i h p q = rw (add-one, take-suc v i noRank h, map-behind (take i v) 
 
 pub addresses-length : (v : List Rank) (n : ℕ) → n ≤ length v → length (flat (addressesOf (take n v))) ≡ 4 * n
 addresses-length v n h = flat-length (addressesOf (take n v)) ∙ ap (λ (k : ℕ). 4 * k) (length-map (take n v) (λ (r : Rank). r .address) ∙ length-take-le n v h)
-
--- of 64 octets no more than 64 are taken
-pub take-min : (v : List ℕ) (n m : ℕ) → length v ≡ 64 → m ≡ min n 64 → take n v ≡ take m v
-take-min v n m e q = go (leb n 64) refl
-  where
-    go : (b : Bool) → leb n 64 ≡ b → take n v ≡ take m v
-    go true t = let h : n ≤ 64 = leb-true n 64 t in let k : n ≡ m = omega (arith, q) in ap (λ (j : ℕ). take j v) k
-    go false t = let h : 64 < n = leb-false n 64 t in let a : length v ≤ n = omega arith in let b : length v ≤ m = omega (arith, q) in take-all n v a ∙ sym (take-all m v b)
 
 -- ---- no reply is longer than 648 octets
 part-short : (q : List ℕ) (at n : ℕ) → length (part q at n) ≤ n

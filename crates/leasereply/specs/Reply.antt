@@ -1,8 +1,8 @@
 -- The octets of a reply. Document 01, "Lease table and queries".
 use Prim.Native.Nat.{ℕ}
-use mathlib.Core.Bool.{Bool, true, false, cond, _||_}
+use mathlib.Core.Bool.{cond, _||_}
 use mathlib.Core.List.{List, [], _∷_, _++_, map}
-use lib.Dec.{ltb, leb}
+use lib.Dec.{ltb}
 use lib.ListN.{length, getD, take, replicate}
 use Rattle.clock.specs.declared.Moment.{Moment}
 use Rattle.clock.specs.Clock.{secondsLeft, secondsSince}
@@ -49,13 +49,16 @@ activeReply clock server query x addresses =
     fixed query (x .htype) (x .hlen) (bigEndian 4 (x .address)) (take 16 (x .chaddr))
     ++ option 53 (13 ∷ []) ++ option 54 (bigEndian 4 server) ++ ofLease clock x ++ optional 92 (flat addresses) ++ (255 ∷ [])
 
--- For the contracts of the writers: the addresses of the first n ranks that a scan kept, if they are two or more, and what is written
--- where query and buffer are long enough.
+-- ---- for the contracts of inner functions; no public promise cites these
+
+-- The addresses of ranks.
 abbrev pub addressesOf : List Rank → List ℕ
 addressesOf ranks = map (λ r. r .address) ranks
 
+-- Those of the first n ranks that a scan kept, if they are two or more, and at most 63.
 abbrev pub listed : ℕ → List Rank → List ℕ
 listed n ranks = cond (ltb n 2 || ltb 63 n) [] (addressesOf (take n ranks))
 
+-- What is written: the octets, if query and buffer are long enough.
 abbrev pub fitting : List ℕ → List ℕ → List ℕ → List ℕ
 fitting query buffer octets = cond (ltb (length query) 240 || ltb (length buffer) 648) [] octets

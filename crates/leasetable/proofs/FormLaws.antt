@@ -1,16 +1,19 @@
--- What the scan of the form says of the whole table. Assumes nothing.
-use mathlib.Core.Path.{_≡_, refl, sym, _∙_, ap}
+-- What the scan of the form says of the whole table, and what a table of that form says of its records. Assumes nothing.
+use mathlib.Core.Path.{_≡_, refl, _∙_, ap}
 use mathlib.Core.Bool.{Bool, true, false, _&&_}
 use mathlib.Core.List.{List, [], _∷_, foldl}
-use Prim.Native.Nat.{ℕ}
+use Prim.Native.Nat.{ℕ, _<_}
 use lib.ListN.{length}
 use lib.Dec.{ltb, leb}
+use borrow.Author.Tests.{ltb-true}
 use Rattle.lease.specs.declared.Lease.{Lease}
 use Rattle.lease.specs.Lease.{wellFormed}
+use Rattle.lease.proofs.ListLaws.{and-left, and-right}
 use Rattle.leasetable.specs.declared.form.Form.{Form}
 use Rattle.leasetable.specs.Table.{tableFits, risesFrom}
 use Rattle.leasetable.specs.Folds.{formGood, formBad, formStart, formAdd, formTurn}
 
+-- ---- the scan
 bad-stays : (t : List Lease) → (foldl formTurn formBad t) .ok ≡ false
 bad-stays [] = refl
 bad-stays (x ∷ xs) = bad-stays xs
@@ -36,3 +39,17 @@ form-law p (x ∷ xs) = more p x xs (form-law (x .address) xs) (ltb p (x .addres
 pub form-whole : (t : List Lease) → (leb (length t) 256 && (foldl formTurn formStart t) .ok) ≡ tableFits t
 unfolding tableFits
 form-whole t = ap (λ (b : Bool). leb (length t) 256 && b) (form-law 0 t)
+
+-- ---- a table that keeps its form: its first record, and those behind it
+module _ (a : ℕ) (x : Lease) (xs : List Lease) (e : risesFrom a (x ∷ xs) ≡ true) where
+  pub rise-first : a < x .address
+  unfolding risesFrom
+  rise-first = ltb-true a (x .address) (and-left (ltb a (x .address)) (wellFormed x) (and-left (ltb a (x .address) && wellFormed x) (risesFrom (x .address) xs) e))
+
+  pub rise-form : wellFormed x ≡ true
+  unfolding risesFrom
+  rise-form = and-right (ltb a (x .address)) (wellFormed x) (and-left (ltb a (x .address) && wellFormed x) (risesFrom (x .address) xs) e)
+
+  pub rise-rest : risesFrom (x .address) xs ≡ true
+  unfolding risesFrom
+  rise-rest = and-right (ltb a (x .address) && wellFormed x) (risesFrom (x .address) xs) e

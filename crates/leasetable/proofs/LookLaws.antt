@@ -2,42 +2,30 @@
 use mathlib.Core.Path.{_≡_, refl, sym, _∙_, ap, subst}
 use mathlib.Core.Bool.{Bool, true, false, cond, _&&_}
 use mathlib.Core.List.{List, [], _∷_, foldl, map, headD}
-use Prim.Native.Nat.{ℕ, zero, suc, _+_, _≤_, _<_, min}
+use Prim.Native.Nat.{ℕ, zero, suc, _≤_, _<_, min}
 use native.Mathlib.Omega.{arith}
 use lib.ListN.{length, take, getD, set, length-map, length-replicate}
 use lib.Seq.{take-all}
 use lib.Dec.{ltb, eqb}
+use borrow.Table.Steps.{cases}
 use borrow.Author.Tests.{eq-eqb, ne-eqb, eqb-true, eqb-false, ltb-true, ltb-false, le-ltb}
 use Rattle.clock.specs.declared.Moment.{Moment}
 use Rattle.lease.specs.declared.Lease.{Lease}
 use Rattle.lease.specs.declared.Rank.{Rank}
-use Rattle.lease.specs.Lease.{noLease, wellFormed, activeAt, rankOf, ranksBefore}
+use Rattle.lease.specs.Lease.{noLease, activeAt, rankOf, ranksBefore}
 use Rattle.leasetable.specs.declared.client.Key.{Key}
-use Rattle.leasetable.specs.declared.hunt.Hunt.{Hunt}
-use Rattle.leasetable.specs.declared.gather.Gather.{Gather}
-use Rattle.leasetable.specs.declared.fetch.Fetch.{Fetch}
+use Rattle.leasetable.specs.declared.candidates.Candidates.{Candidates}
+use Rattle.leasetable.specs.declared.associated.Associated.{Associated}
+use Rattle.leasetable.specs.declared.record.Record.{Record}
 use Rattle.leasetable.specs.declared.look.Found.{Found}
 use Rattle.leasetable.specs.Table.{risesFrom, those, placed}
-use Rattle.leasetable.specs.Folds.{clientHas, huntTurn, gatherTurn, fetchAdd, fetchTurn, noRank, noRanks, gatherAt, gathering, fetching, found, hunted, gathered, fetched, looked}
-use Rattle.leasetable.proofs.HuntLaws.{Reached, reached-none, order, HuntReached, hunt-fold, GatherReached, gather-fold}
-
-bcase : {A : Type 0} (b : Bool) → (b ≡ true → A) → (b ≡ false → A) → A
-bcase true f g = f refl
-bcase false f g = g refl
+use Rattle.leasetable.specs.Folds.{clientHas, candidatesTurn, recordAdd, recordTurn, noRank, noRanks, associatedAt, associatedFrom, recordFor, found, associatedIn, recordIn, looked}
+use Rattle.leasetable.proofs.FormLaws.{rise-first, rise-rest}
+use Rattle.leasetable.proofs.CandidateLaws.{Reached, reached-none, order, CandidatesReached, candidates-fold, associated-fold}
 
 -- ---- addresses that rise
-apart : false ≡ true → ⊥
-apart e = let z : _≡_ {A = ℕ} 0 1 = ap (λ (b : Bool). cond b 1 0) e in omega (arith, z)
-
-both : (a b c : Bool) → (a && b && c) ≡ true → (a ≡ true) × (c ≡ true)
-both true true true e = (refl, refl)
-both true true false e = (refl, e)
-both true false c e = absurd (apart e)
-both false b c e = absurd (apart e)
-
 rises : (p : ℕ) (x : Lease) (xs : List Lease) → risesFrom p (x ∷ xs) ≡ true → (p < x .address) × (risesFrom (x .address) xs ≡ true)
-unfolding risesFrom
-rises p x xs e = let h = both (ltb p (x .address)) (wellFormed x) (risesFrom (x .address) xs) e in (ltb-true p (x .address) (h .0), h .1)
+rises p x xs e = (rise-first p x xs e, rise-rest p x xs e)
 
 abbrev at : ℕ → Lease → Bool
 at a x = eqb (x .address) a
@@ -51,20 +39,20 @@ none (x ∷ xs) p a e l =
     rw (ne-eqb (x .address) a n) (none xs (x .address) a (h .1) (omega (arith, h .0, l)))
 
 -- the scan has the record of the address
-pub fetch-fold : (t : List Lease) (p : ℕ) (f : Fetch) → risesFrom p t ≡ true → foldl fetchTurn f t .best ≡ headD (those (at (f .address)) t) (f .best)
+pub record-fold : (t : List Lease) (p : ℕ) (f : Record) → risesFrom p t ≡ true → foldl recordTurn f t .best ≡ headD (those (at (f .address)) t) (f .best)
 unfolding those headD
-fetch-fold [] p f e = refl
-fetch-fold (x ∷ xs) p f e =
+record-fold [] p f e = refl
+record-fold (x ∷ xs) p f e =
     let h = rises p x xs e in
-    bcase (eqb (x .address) (f .address))
+    cases (eqb (x .address) (f .address))
     (λ w.
-    ap (λ (b : Bool). foldl fetchTurn (cond b (fetchAdd f x) f) xs .best) w
-    ∙ fetch-fold xs (x .address) (fetchAdd f x) (h .1)
+    ap (λ (b : Bool). foldl recordTurn (cond b (recordAdd f x) f) xs .best) w
+    ∙ record-fold xs (x .address) (recordAdd f x) (h .1)
     ∙ ap (λ (l : List Lease). headD l x) (none xs (x .address) (f .address) (h .1) (omega (arith, eqb-true (x .address) (f .address) w)))
     ∙ sym (ap (λ (b : Bool). headD (cond b (x ∷ those (at (f .address)) xs) (those (at (f .address)) xs)) (f .best)) w))
     (λ w.
-    ap (λ (b : Bool). foldl fetchTurn (cond b (fetchAdd f x) f) xs .best) w
-    ∙ fetch-fold xs (x .address) f (h .1)
+    ap (λ (b : Bool). foldl recordTurn (cond b (recordAdd f x) f) xs .best) w
+    ∙ record-fold xs (x .address) f (h .1)
     ∙ sym (ap (λ (b : Bool). headD (cond b (x ∷ those (at (f .address)) xs) (those (at (f .address)) xs)) (f .best)) w))
 
 -- ---- every record is the only one of its address
@@ -76,12 +64,12 @@ module _ (P : Lease → Type 0) where
   all-those : (test : Lease → Bool) (t : List Lease) → All t → All (those test t)
   unfolding those
   all-those test [] a = tt
-  all-those test (x ∷ xs) a = bcase (test x) (λ e. rw e (a .0, all-those test xs (a .1))) (λ e. rw e (all-those test xs (a .1)))
+  all-those test (x ∷ xs) a = cases (test x) (λ e. rw e (a .0, all-those test xs (a .1))) (λ e. rw e (all-those test xs (a .1)))
 
   all-placed : (x : Lease) (l : List Lease) → P x → All l → All (placed x l)
   unfolding placed
   all-placed x [] p a = (p, tt)
-  all-placed x (y ∷ ys) p a = bcase (ranksBefore (rankOf x) (rankOf y)) (λ e. rw e (p, all-placed y ys (a .0) (a .1))) (λ e. rw e (a .0, all-placed x ys p (a .1)))
+  all-placed x (y ∷ ys) p a = cases (ranksBefore (rankOf x) (rankOf y)) (λ e. rw e (p, all-placed y ys (a .0) (a .1))) (λ e. rw e (a .0, all-placed x ys p (a .1)))
 
   all-order : (l t : List Lease) → All l → All t → All (order l t)
   all-order l [] a b = a
@@ -130,7 +118,7 @@ unfolding those
 above-those test [] p e = tt
 above-those test (x ∷ xs) p e =
     let h = rises p x xs e in
-    bcase (test x) (λ w. rw w (omega (arith, h .0))) (λ w. rw w (above-those test xs (x .address) (h .1)))
+    cases (test x) (λ w. rw w (omega (arith, h .0))) (λ w. rw w (above-those test xs (x .address) (h .1)))
 
 pub record Looked (n : ℕ) (clock : Moment) (kind : ℕ) (r : Found) (l : List Lease) : Type 0 where
   pub refusal-is : r .refusal ≡ n
@@ -146,14 +134,14 @@ module _ (n : ℕ) (clock : Moment) (key : Key) (t : List Lease) where
   l₀ = order [] (those (λ x. activeAt clock x && clientHas key x) t)
 
   -- the ranks, from the first four or from the second scan
-  abbrev Ranked : Gather → Type 0
+  abbrev Ranked : Associated → Type 0
   Ranked g = (g .refusal ≡ n) × (g .clock ≡ clock) × (g .key ≡ key) × (g .kept ≡ min (length l₀) 63) × (take (g .kept) (g .ranks) ≡ take 63 (map rankOf l₀))
 
-  ranked : (h : Hunt) → HuntReached n clock key h l₀ → Ranked (gathered (gathering h) t)
-  unfolding gathering
+  ranked : (h : Candidates) → CandidatesReached n clock key h l₀ → Ranked (associatedIn (associatedFrom h) t)
+  unfolding associatedFrom
   ranked h r =
-      bcase (eqb (h .kept) 4)
-      (λ e. rw e (let g = gather-fold n clock key t (gatherAt false h 0 noRanks) [] (record { refusal-is = r .refusal-is; clock-is = r .clock-is; key-is = r .key-is; reached = reached-none 63 noRanks (length-replicate {A = Rank} 63 noRank) }) in
+      cases (eqb (h .kept) 4)
+      (λ e. rw e (let g = associated-fold n clock key t (associatedAt false h 0 noRanks) [] (record { refusal-is = r .refusal-is; clock-is = r .clock-is; key-is = r .key-is; reached = reached-none 63 noRanks (length-replicate {A = Rank} 63 noRank) }) in
       (g .refusal-is, g .clock-is, g .key-is, g .reached .kept-is, g .reached .ranks-are)))
       (λ e.
       let k = r .reached .kept-is in
@@ -164,29 +152,29 @@ module _ (n : ℕ) (clock : Moment) (key : Key) (t : List Lease) where
       rw e (r .refusal-is, r .clock-is, r .key-is, omega (arith, k, z), three (h .ranks) (h .kept) (r .reached .places-are) s ∙ r .reached .ranks-are ∙ take-all 4 (map rankOf l₀) (omega (arith, w, z)) ∙ sym (take-all 63 (map rankOf l₀) (omega (arith, w, z)))))
     where
       few : (k m : ℕ) → k ≡ min m 4 → (k ≡ 4 → ⊥) → k ≤ 3
-      few k m e n = bcase (ltb k 4) (λ t. omega (arith, ltb-true k 4 t)) (λ t. absurd (n (omega (arith, e, ltb-false k 4 t))))
+      few k m e n = cases (ltb k 4) (λ t. omega (arith, ltb-true k 4 t)) (λ t. absurd (n (omega (arith, e, ltb-false k 4 t))))
 
       fewer : (k m : ℕ) → k ≡ min m 4 → (k ≡ 4 → ⊥) → m ≤ 3
       fewer k m e n = let h = few k m e n in omega (arith, e, h)
 
   -- the record of the first rank
-  best : (h : Hunt) (l : List Lease) → (h .key .kind ≡ 1 → ⊥) → Reached 4 (h .kept) (h .ranks) l → All (Only 0 t) l → risesFrom 0 t ≡ true → (fetched (fetching h) t .best ≡ headD l noLease) × Above l
-  unfolding fetching headD
+  best : (h : Candidates) (l : List Lease) → (h .key .kind ≡ 1 → ⊥) → Reached 4 (h .kept) (h .ranks) l → All (Only 0 t) l → risesFrom 0 t ≡ true → (recordIn (recordFor h) t .best ≡ headD l noLease) × Above l
+  unfolding recordFor headD
   best h [] c r a e =
       let k : h .kept ≡ 0 = omega (arith, r .kept-is) in
       (rw (ne-eqb (h .key .kind) 1 c, eq-eqb (h .kept) 0 k), tt)
   best h (x ∷ xs) c r a e =
       let k : h .kept ≡ 0 → ⊥ = λ z. omega (arith, r .kept-is, z) in
-      let f : Fetch = record { none = false; address = getD (h .ranks) 0 noRank .address; best = noLease } in
+      let f : Record = record { none = false; address = getD (h .ranks) 0 noRank .address; best = noLease } in
       let q : getD (h .ranks) 0 noRank .address ≡ x .address = ap (λ (y : Rank). y .address) (first-of (h .kept) (h .ranks) (rankOf x) (take 3 (map rankOf xs)) (r .ranks-are)) in
-      (rw (ne-eqb (h .key .kind) 1 c, ne-eqb (h .kept) 0 k) (fetch-fold t 0 f e ∙ ap (λ (d : ℕ). headD (those (at d) t) noLease) q ∙ ap (λ (l : List Lease). headD l noLease) (a .0 .1)), a .0 .0)
+      (rw (ne-eqb (h .key .kind) 1 c, ne-eqb (h .kept) 0 k) (record-fold t 0 f e ∙ ap (λ (d : ℕ). headD (those (at d) t) noLease) q ∙ ap (λ (l : List Lease). headD l noLease) (a .0 .1)), a .0 .0)
 
-  pub client-looked : (h : Hunt) → h .refusal ≡ n → h .clock ≡ clock → h .key ≡ key → Reached 4 (h .kept) (h .ranks) [] → 2 ≤ key .kind → risesFrom 0 t ≡ true → Looked n clock (key .kind) (looked h t) l₀
+  pub client-looked : (h : Candidates) → h .refusal ≡ n → h .clock ≡ clock → h .key ≡ key → Reached 4 (h .kept) (h .ranks) [] → 2 ≤ key .kind → risesFrom 0 t ≡ true → Looked n clock (key .kind) (looked h t) l₀
   unfolding looked found
   client-looked h p c k r g e =
       let o : ltb (h .key .kind) 2 ≡ false = le-ltb (h .key .kind) 2 (subst (λ (y : Key). 2 ≤ y .kind) (sym k) g) in
-      let u = hunt-fold n clock key t h [] (record { refusal-is = p; clock-is = c; key-is = k; reached = r }) in
-      let v = ranked (foldl huntTurn h t) u in
-      let one : foldl huntTurn h t .key .kind ≡ 1 → ⊥ = λ z. (let s = ap (λ (y : Key). y .kind) (u .key-is) in omega (arith, s, z, g)) in
-      let w = best (foldl huntTurn h t) l₀ one (u .reached) (all-order (Only 0 t) [] (those (λ x. activeAt clock x && clientHas key x) t) tt (all-those (Only 0 t) (λ x. activeAt clock x && clientHas key x) t (all-only t 0 e))) e in
+      let u = candidates-fold n clock key t h [] (record { refusal-is = p; clock-is = c; key-is = k; reached = r }) in
+      let v = ranked (foldl candidatesTurn h t) u in
+      let one : foldl candidatesTurn h t .key .kind ≡ 1 → ⊥ = λ z. (let s = ap (λ (y : Key). y .kind) (u .key-is) in omega (arith, s, z, g)) in
+      let w = best (foldl candidatesTurn h t) l₀ one (u .reached) (all-order (Only 0 t) [] (those (λ x. activeAt clock x && clientHas key x) t) tt (all-those (Only 0 t) (λ x. activeAt clock x && clientHas key x) t (all-only t 0 e))) e in
       rw o (record { refusal-is = v .0; clock-is = v .1; kind-is = ap (λ (y : Key). y .kind) (v .2); kept-is = v .3; ranks-are = v .4; best-is = w .0; above = w .1 })

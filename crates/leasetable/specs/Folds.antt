@@ -1,4 +1,5 @@
 -- What the scans carry from record to record. Only the contracts of the scans and their steps cite this.
+-- Of each scan: `Off` where it has nothing to look for, `Wants` where a record is to be noted, `Add` the record noted, and `Turn`, one turn of its loop.
 use Prim.Native.Nat.{ℕ, _+_, min}
 use mathlib.Core.Bool.{Bool, true, false, cond, _&&_}
 use mathlib.Core.List.{List, [], _∷_, _++_, foldl}
@@ -10,17 +11,21 @@ use Rattle.lease.specs.declared.Rank.{Rank}
 use Rattle.lease.specs.Lease.{wellFormed, activeAt, hasHardware, hasClientId, rankOf, ranksBefore, noLease}
 use Rattle.leasetable.specs.declared.form.Form.{Form}
 use Rattle.leasetable.specs.declared.client.Key.{Key}
-use Rattle.leasetable.specs.declared.hunt.Hunt.{Hunt}
-use Rattle.leasetable.specs.declared.gather.Gather.{Gather}
-use Rattle.leasetable.specs.declared.fetch.Fetch.{Fetch}
+use Rattle.leasetable.specs.declared.candidates.Candidates.{Candidates}
+use Rattle.leasetable.specs.declared.associated.Associated.{Associated}
+use Rattle.leasetable.specs.declared.record.Record.{Record}
 use Rattle.leasetable.specs.declared.look.Found.{Found}
 
+-- ---- the form of the table
+-- the records so far keep the form, and the last has this address
 abbrev pub formGood : ℕ → Form
 formGood address = record { ok = true; last = address }
 
+-- a record broke the form
 abbrev pub formBad : Form
 formBad = record { ok = false; last = 0 }
 
+-- no record is passed yet
 abbrev pub formStart : Form
 formStart = formGood 0
 
@@ -36,111 +41,116 @@ formAdd a x = cond (ltb (a .last) (x .address) && wellFormed x) (formGood (x .ad
 abbrev pub formTurn : Form → Lease → Form
 formTurn a x = cond (formWants a x) (formAdd a x) a
 
+-- ---- the leases of a client
 -- the lease has the hardware address or the client id
 unfoldable pub clientHas : Key → Lease → Bool
 clientHas k x =
     cond (eqb (k .kind) 2) (hasHardware (k .htype) (k .len) (k .octets) x)
     (cond (eqb (k .kind) 3) (hasClientId (k .len) (k .octets) x) false)
 
--- a rank goes into a list of ranks
-unfoldable pub bubbled : Rank → List Rank → List Rank
-bubbled e [] = e ∷ []
-bubbled e (y ∷ ys) = cond (ranksBefore e y) (e ∷ bubbled y ys) (y ∷ bubbled e ys)
+-- a rank goes into a list of ranks, by the rule of `placed` in Table for leases
+unfoldable pub placedRank : Rank → List Rank → List Rank
+placedRank e [] = e ∷ []
+placedRank e (y ∷ ys) = cond (ranksBefore e y) (e ∷ placedRank y ys) (y ∷ placedRank e ys)
 
 -- it goes among the first n, and all behind them move on by one; there are as many places as before
 unfoldable pub inserted : ℕ → ℕ → Rank → List Rank → List Rank
-inserted places n e ranks = take places (bubbled e (take n ranks) ++ drop (n + 1) ranks)
+inserted places n e ranks = take places (placedRank e (take n ranks) ++ drop (n + 1) ranks)
 
--- ---- the first four ranks
+-- ---- candidates: the ranks of the client's first four active leases
+abbrev pub candidatesOff : Candidates → Bool
+candidatesOff a = ltb (a .key .kind) 2
 
-abbrev pub huntOff : Hunt → Bool
-huntOff h = ltb (h .key .kind) 2
+abbrev pub candidatesWants : Candidates → Lease → Bool
+candidatesWants a x = activeAt (a .clock) x && clientHas (a .key) x
 
-abbrev pub huntWants : Hunt → Lease → Bool
-huntWants h x = activeAt (h .clock) x && clientHas (h .key) x
-
-unfoldable pub huntAdd : Hunt → Lease → Hunt
-huntAdd h x =
-    cond (ltb 4 (h .kept)) h
+unfoldable pub candidatesAdd : Candidates → Lease → Candidates
+candidatesAdd a x =
+    cond (ltb 4 (a .kept)) a
     (record {
-      refusal = h .refusal;
-      clock = h .clock;
-      key = h .key;
-      kept = min (h .kept + 1) 4;
-      ranks = inserted 4 (h .kept) (rankOf x) (h .ranks);
+      refusal = a .refusal;
+      clock = a .clock;
+      key = a .key;
+      kept = min (a .kept + 1) 4;
+      ranks = inserted 4 (a .kept) (rankOf x) (a .ranks);
     })
 
-abbrev pub huntTurn : Hunt → Lease → Hunt
-huntTurn h x = cond (huntWants h x) (huntAdd h x) h
+abbrev pub candidatesTurn : Candidates → Lease → Candidates
+candidatesTurn a x = cond (candidatesWants a x) (candidatesAdd a x) a
 
--- ---- the first 63 ranks
+-- ---- associated: the ranks of the client's first 63 active leases
+abbrev pub associatedOff : Associated → Bool
+associatedOff a = a .known
 
-abbrev pub gatherOff : Gather → Bool
-gatherOff h = h .known
+abbrev pub associatedWants : Associated → Lease → Bool
+associatedWants a x = activeAt (a .clock) x && clientHas (a .key) x
 
-abbrev pub gatherWants : Gather → Lease → Bool
-gatherWants h x = activeAt (h .clock) x && clientHas (h .key) x
-
-unfoldable pub gatherAdd : Gather → Lease → Gather
-gatherAdd h x =
-    cond (ltb 63 (h .kept)) h
+unfoldable pub associatedAdd : Associated → Lease → Associated
+associatedAdd a x =
+    cond (ltb 63 (a .kept)) a
     (record {
-      known = h .known;
-      refusal = h .refusal;
-      clock = h .clock;
-      key = h .key;
-      kept = min (h .kept + 1) 63;
-      ranks = inserted 63 (h .kept) (rankOf x) (h .ranks);
+      known = a .known;
+      refusal = a .refusal;
+      clock = a .clock;
+      key = a .key;
+      kept = min (a .kept + 1) 63;
+      ranks = inserted 63 (a .kept) (rankOf x) (a .ranks);
     })
 
-abbrev pub gatherTurn : Gather → Lease → Gather
-gatherTurn h x = cond (gatherWants h x) (gatherAdd h x) h
+abbrev pub associatedTurn : Associated → Lease → Associated
+associatedTurn a x = cond (associatedWants a x) (associatedAdd a x) a
 
--- ---- the record of an address
-abbrev pub fetchOff : Fetch → Bool
-fetchOff f = f .none
+-- ---- record: the record of an address
+abbrev pub recordOff : Record → Bool
+recordOff a = a .none
 
-abbrev pub fetchWants : Fetch → Lease → Bool
-fetchWants f x = eqb (x .address) (f .address)
+abbrev pub recordWants : Record → Lease → Bool
+recordWants a x = eqb (x .address) (a .address)
 
-abbrev pub fetchAdd : Fetch → Lease → Fetch
-fetchAdd f x = record { none = f .none; address = f .address; best = x }
+abbrev pub recordAdd : Record → Lease → Record
+recordAdd a x = record { none = a .none; address = a .address; best = x }
 
-abbrev pub fetchTurn : Fetch → Lease → Fetch
-fetchTurn f x = cond (fetchWants f x) (fetchAdd f x) f
+abbrev pub recordTurn : Record → Lease → Record
+recordTurn a x = cond (recordWants a x) (recordAdd a x) a
 
 -- ---- the scans together
+-- what stands in a place without a rank
 abbrev pub noRank : Rank
 noRank = record { last = moment 0; address = 0 }
 
 abbrev pub noRanks : List Rank
 noRanks = replicate 63 noRank
 
-abbrev pub gatherAt : Bool → Hunt → ℕ → List Rank → Gather
-gatherAt known h kept ranks = record { known = known; refusal = h .refusal; clock = h .clock; key = h .key; kept = kept; ranks = ranks }
+-- ranks of the client that the candidates are of
+abbrev pub associatedAt : Bool → Candidates → ℕ → List Rank → Associated
+associatedAt known four kept ranks = record { known = known; refusal = four .refusal; clock = four .clock; key = four .key; kept = kept; ranks = ranks }
 
--- fewer than four ranks are all that there are
-unfoldable pub gathering : Hunt → Gather
-gathering h =
-    cond (eqb (h .kept) 4) (gatherAt false h 0 noRanks)
-    (gatherAt true h (h .kept) (set (set (set noRanks 0 (getD (h .ranks) 0 noRank)) 1 (getD (h .ranks) 1 noRank)) 2 (getD (h .ranks) 2 noRank)))
+-- fewer than four ranks are all that there are; with four, the table is gone through again
+unfoldable pub associatedFrom : Candidates → Associated
+associatedFrom four =
+    cond (eqb (four .kept) 4) (associatedAt false four 0 noRanks)
+    (associatedAt true four (four .kept) (set (set (set noRanks 0 (getD (four .ranks) 0 noRank)) 1 (getD (four .ranks) 1 noRank)) 2 (getD (four .ranks) 2 noRank)))
 
-unfoldable pub fetching : Hunt → Fetch
-fetching h =
-    cond (eqb (h .key .kind) 1) (record { none = false; address = h .key .address; best = noLease })
-    (record { none = eqb (h .kept) 0; address = getD (h .ranks) 0 noRank .address; best = noLease })
+-- the address that is asked for, or that of the client's first lease, if it has one
+unfoldable pub recordFor : Candidates → Record
+recordFor four =
+    cond (eqb (four .key .kind) 1) (record { none = false; address = four .key .address; best = noLease })
+    (record { none = eqb (four .kept) 0; address = getD (four .ranks) 0 noRank .address; best = noLease })
 
-unfoldable pub found : Gather → Fetch → Found
-found g f = record { refusal = g .refusal; clock = g .clock; kind = g .key .kind; kept = g .kept; ranks = g .ranks; best = f .best }
+-- the ranks from one scan, the record from another
+unfoldable pub found : Associated → Record → Found
+found all one = record { refusal = all .refusal; clock = all .clock; kind = all .key .kind; kept = all .kept; ranks = all .ranks; best = one .best }
 
-abbrev pub hunted : Hunt → List Lease → Hunt
-hunted a t = cond (huntOff a) a (foldl huntTurn a t)
+-- what each scan finds in a table, from what it starts with
+abbrev pub candidatesIn : Candidates → List Lease → Candidates
+candidatesIn a t = cond (candidatesOff a) a (foldl candidatesTurn a t)
 
-abbrev pub gathered : Gather → List Lease → Gather
-gathered a t = cond (gatherOff a) a (foldl gatherTurn a t)
+abbrev pub associatedIn : Associated → List Lease → Associated
+associatedIn a t = cond (associatedOff a) a (foldl associatedTurn a t)
 
-abbrev pub fetched : Fetch → List Lease → Fetch
-fetched a t = cond (fetchOff a) a (foldl fetchTurn a t)
+abbrev pub recordIn : Record → List Lease → Record
+recordIn a t = cond (recordOff a) a (foldl recordTurn a t)
 
-unfoldable pub looked : Hunt → List Lease → Found
-looked a t = found (gathered (gathering (hunted a t)) t) (fetched (fetching (hunted a t)) t)
+-- the three scans, one behind the other
+unfoldable pub looked : Candidates → List Lease → Found
+looked a t = found (associatedIn (associatedFrom (candidatesIn a t)) t) (recordIn (recordFor (candidatesIn a t)) t)

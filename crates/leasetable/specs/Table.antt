@@ -1,6 +1,6 @@
 -- The lease table as a whole. Document 01, "Lease table and queries".
 use Prim.Native.Nat.{ℕ}
-use mathlib.Core.Bool.{Bool, true, false, cond, _&&_}
+use mathlib.Core.Bool.{Bool, true, cond, _&&_}
 use mathlib.Core.List.{List, [], _∷_, foldl}
 use lib.Dec.{ltb, leb}
 use lib.ListN.{length}

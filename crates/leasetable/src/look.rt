@@ -1,15 +1,15 @@
 // The leases of a table that a query is about, in up to three scans.
-use crate::fetch;
-use crate::fetch::Fetch;
-use crate::gather;
-use crate::gather::Gather;
-use crate::hunt;
-use crate::hunt::Hunt;
+use crate::associated;
+use crate::associated::Associated;
+use crate::candidates;
+use crate::candidates::Candidates;
+use crate::record;
+use crate::record::Record;
 use clock::Moment;
 use lease::Lease;
 use lease::Rank;
 ghost use mathlib.Core.Path.{_≡_};
-ghost use Rattle.leasetable.specs.Folds.{gathering, fetching, found, looked};
+ghost use Rattle.leasetable.specs.Folds.{associatedFrom, recordFor, found, looked};
 ghost use Rattle.lease.specs.Lease.{noLease};
 
 // What was found. By address, `best` is the record of that address; by client it is the active lease of
@@ -25,39 +25,39 @@ pub struct Found {
 }
 
 // Where the client has less than four leases, all ranks are known.
-fn gather_from(h: Hunt) -> Gather
-    ensures { λ r. ⌜ r ≡ gathering h ⌝ }
+fn associated_from(four: Candidates) -> Associated
+    ensures { λ r. ⌜ r ≡ associatedFrom four ⌝ }
 {
     let blank = Rank {
         last: Moment(0),
         address: 0,
     };
     let mut ranks = [blank; 63];
-    let clock = h.clock;
-    let key = h.key;
-    if h.kept == 4 {
-        return Gather {
+    let clock = four.clock;
+    let key = four.key;
+    if four.kept == 4 {
+        return Associated {
             known: false,
-            refusal: h.refusal,
+            refusal: four.refusal,
             clock,
             key,
             kept: 0,
             ranks,
         };
     }
-    let held = h.ranks;
+    let held = four.ranks;
     let a = held[0];
     let b = held[1];
     let c = held[2];
     ranks[0] = a;
     ranks[1] = b;
     ranks[2] = c;
-    Gather {
+    Associated {
         known: true,
-        refusal: h.refusal,
+        refusal: four.refusal,
         clock,
         key,
-        kept: h.kept,
+        kept: four.kept,
         ranks,
     }
 }
@@ -84,51 +84,51 @@ fn no_lease() -> Lease
 }
 
 // The address that is asked for, or that of the client's first lease.
-fn fetch_for(h: Hunt) -> Fetch
-    ensures { λ r. ⌜ r ≡ fetching h ⌝ }
+fn record_for(four: Candidates) -> Record
+    ensures { λ r. ⌜ r ≡ recordFor four ⌝ }
 {
     let best = no_lease();
-    let key = h.key;
+    let key = four.key;
     if key.kind == 1 {
-        return Fetch {
+        return Record {
             none: false,
             address: key.address as u64,
             best,
         };
     }
-    let ranks = h.ranks;
+    let ranks = four.ranks;
     let first = ranks[0];
-    Fetch {
-        none: h.kept == 0,
+    Record {
+        none: four.kept == 0,
         address: first.address,
         best,
     }
 }
 
 // All that was found.
-fn found_by(g: Gather, f: Fetch) -> Found
-    ensures { λ r. ⌜ r ≡ found g f ⌝ }
+fn found_by(all: Associated, one: Record) -> Found
+    ensures { λ r. ⌜ r ≡ found all one ⌝ }
 {
-    let clock = g.clock;
-    let key = g.key;
-    let ranks = g.ranks;
-    let best = f.best;
+    let clock = all.clock;
+    let key = all.key;
+    let ranks = all.ranks;
+    let best = one.best;
     Found {
-        refusal: g.refusal,
+        refusal: all.refusal,
         clock,
         kind: key.kind,
-        kept: g.kept,
+        kept: all.kept,
         ranks,
         best,
     }
 }
 
 // What is looked for is found in a table.
-pub fn look(t: &[Lease], a: Hunt) -> Found
+pub fn look(t: &[Lease], a: Candidates) -> Found
     ensures { λ r. ⌜ r ≡ looked a (now (t .entry)) ⌝ }
 {
-    let h = hunt::scan(t, a);
-    let g = gather::scan(t, gather_from(h));
-    let f = fetch::scan(t, fetch_for(h));
-    found_by(g, f)
+    let four = candidates::scan(t, a);
+    let all = associated::scan(t, associated_from(four));
+    let one = record::scan(t, record_for(four));
+    found_by(all, one)
 }

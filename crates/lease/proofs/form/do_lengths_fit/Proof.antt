@@ -1,5 +1,4 @@
-use borrow.Author.Tests.{eq-eqb, ne-eqb, le-leb, lt-leb, lt-ltb, le-ltb, not-true, not-false}
-use mathlib.Core.Path.{_≡_, sym, _∙_}
+use borrow.Author.Tests.{eq-eqb, ne-eqb, le-leb, lt-leb}
 use Rattle.lease.specs.Lease.{lengthsFit}
 use Rattle.lease.proofs.form.do_lengths_fit.Statement.{statement}
 use Rattle.lease.proofs.form.do_lengths_fit.Tie as tie

@@ -1,5 +1,5 @@
-use borrow.Author.Tests.{eq-eqb, ne-eqb, le-leb, lt-leb, lt-ltb, le-ltb, not-true, not-false}
-use mathlib.Core.Path.{_≡_, sym, _∙_}
+use borrow.Author.Tests.{not-true, not-false}
+use mathlib.Core.Path.{sym, _∙_}
 use Rattle.lease.specs.Lease.{momentsFit}
 use borrow.Author.Needs.{needs}
 use Rattle.lease.proofs.form.do_moments_fit.Statement.{statement}

@@ -1,73 +1,53 @@
-use borrow.Author.Tests.{eq-eqb, ne-eqb, le-leb, lt-leb, lt-ltb, le-ltb, not-true, not-false}
 use mathlib.Core.Path.{_≡_, sym, _∙_, ap}
-use native.Mathlib.Omega.{arith}
 use lib.ListN.{length}
 use lib.Dec.{eqb}
 use Rattle.lease.proofs.LeadLaws.{tail-broken, tail-of-6}
 use borrow.Author.Needs.{needs}
 use Rattle.lease.proofs.form.is_zero_from_6.Statement.{statement}
 use Rattle.lease.proofs.form.is_zero_from_6.Tie as tie
-use Rattle.lease.proofs.form.is_zero_from_6.Reads as reads
-use Rattle.lease.proofs.form.is_zero_from_6.Lts as lts
-use Rattle.lease.proofs.lead.eight.Reads as eight-reads
-use Rattle.lease.proofs.lead.four.Reads as four-reads
 
--- src/form.rt:32:20
 array-read-eight : tie.Need-array-read-eight
 array-read-eight c = search needs
 
--- src/form.rt:32:26
 array-read-eight-2 : tie.Need-array-read-eight-2
 array-read-eight-2 c = search needs
 
--- src/form.rt:32:32
 array-read-eight-3 : tie.Need-array-read-eight-3
 array-read-eight-3 c = search needs
 
--- src/form.rt:32:39
 array-read-eight-4 : tie.Need-array-read-eight-4
 array-read-eight-4 c = search needs
 
--- src/form.rt:32:46
 array-read-eight-5 : tie.Need-array-read-eight-5
 array-read-eight-5 c = search needs
 
--- src/form.rt:32:53
 array-read-eight-6 : tie.Need-array-read-eight-6
 array-read-eight-6 c = search needs
 
--- src/form.rt:32:60
 array-read-eight-7 : tie.Need-array-read-eight-7
 array-read-eight-7 c = search needs
 
--- src/form.rt:32:67
 array-read-eight-8 : tie.Need-array-read-eight-8
 array-read-eight-8 c = search needs
 
--- src/form.rt:32:8
 eight-requires : tie.Need-eight-requires
 eight-requires c κs = search needs
 
--- src/form.rt:33:9
 returns : tie.Need-returns
 returns c =
     let s = c .before .before .args in
     let e : length (s .t1) ≡ 16 = search needs in
     sym (tail-broken (s .t1) e (λ z. c .if1 .taken (c .before .eight .ensures ∙ z)))
 
--- src/form.rt:35:16
 array-read-four : tie.Need-array-read-four
 array-read-four c = search needs
 
--- src/form.rt:35:22
 array-read-four-2 : tie.Need-array-read-four-2
 array-read-four-2 c = search needs
 
--- src/form.rt:35:5
 four-requires : tie.Need-four-requires
 four-requires c κs = search needs
 
--- src/form.rt:29:1
 returns-2 : tie.Need-returns-2
 returns-2 c =
     let s = c .before .before .before .args in

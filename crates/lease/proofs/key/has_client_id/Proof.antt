@@ -1,5 +1,4 @@
-use borrow.Author.Tests.{eq-eqb, ne-eqb, le-leb, lt-leb, lt-ltb, le-ltb, not-true, not-false}
-use mathlib.Core.Path.{_≡_, sym, _∙_}
+use borrow.Author.Tests.{eq-eqb, ne-eqb}
 use Rattle.lease.specs.Lease.{hasClientId}
 use borrow.Author.Needs.{needs}
 use Rattle.lease.proofs.key.has_client_id.Statement.{statement}

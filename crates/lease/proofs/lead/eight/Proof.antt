@@ -1,31 +1,21 @@
-use borrow.Author.Tests.{eq-eqb, ne-eqb, le-leb, lt-leb, lt-ltb, le-ltb, not-true, not-false}
-use mathlib.Core.Path.{_≡_, sym, _∙_, ap}
 use native.Mathlib.Omega.{arith}
-use Rattle.lease.specs.Lead.{value, leading}
+use Rattle.lease.specs.Lead.{value}
 use borrow.Author.Needs.{needs}
 use Rattle.lease.proofs.lead.eight.Statement.{statement}
 use Rattle.lease.proofs.lead.eight.Tie as tie
-use Rattle.lease.proofs.lead.eight.Reads as reads
-use Rattle.lease.proofs.lead.eight.Lts as lts
-use Rattle.lease.proofs.lead.four.Reads as four-reads
 
--- src/lead.rt:26:5
 four-requires : tie.Need-four-requires
 four-requires c κs = search needs
 
--- src/lead.rt:26:24
 four-requires-2 : tie.Need-four-requires-2
 four-requires-2 c κs = search needs
 
--- src/lead.rt:26:24
 mul-result : tie.Need-mul-result
 mul-result c = search needs
 
--- src/lead.rt:26:5
 add-result : tie.Need-add-result
 add-result c = search needs
 
--- src/lead.rt:23:1
 returns : tie.Need-returns
 unfolding value
 returns c = omega (arith, c .before .four .ensures .0, c .four2 .ensures .0)

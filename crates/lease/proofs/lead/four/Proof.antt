@@ -1,55 +1,39 @@
-use borrow.Author.Tests.{eq-eqb, ne-eqb, le-leb, lt-leb, lt-ltb, le-ltb, not-true, not-false}
-use mathlib.Core.Path.{_≡_, sym, _∙_, ap}
 use native.Mathlib.Omega.{arith}
-use Rattle.lease.specs.Lead.{value, leading}
+use Rattle.lease.specs.Lead.{value}
 use borrow.Author.Needs.{needs}
 use Rattle.lease.proofs.lead.four.Statement.{statement}
 use Rattle.lease.proofs.lead.four.Tie as tie
-use Rattle.lease.proofs.lead.four.Reads as reads
-use Rattle.lease.proofs.lead.four.Lts as lts
-use Rattle.lease.proofs.lead.wide.Reads as wide-reads
 
--- src/lead.rt:19:5
 wide-requires : tie.Need-wide-requires
 wide-requires c κs = search needs
 
--- src/lead.rt:19:15
 wide-requires-2 : tie.Need-wide-requires-2
 wide-requires-2 c κs = search needs
 
--- src/lead.rt:19:15
 mul-result : tie.Need-mul-result
 mul-result c = search needs
 
--- src/lead.rt:19:5
 add-result : tie.Need-add-result
 add-result c = search needs
 
--- src/lead.rt:19:31
 wide-requires-3 : tie.Need-wide-requires-3
 wide-requires-3 c κs = search needs
 
--- src/lead.rt:19:31
 mul-result-2 : tie.Need-mul-result-2
 mul-result-2 c = search needs
 
--- src/lead.rt:19:5
 add-result-2 : tie.Need-add-result-2
 add-result-2 c = search needs
 
--- src/lead.rt:19:49
 wide-requires-4 : tie.Need-wide-requires-4
 wide-requires-4 c κs = search needs
 
--- src/lead.rt:19:49
 mul-result-3 : tie.Need-mul-result-3
 mul-result-3 c = search needs
 
--- src/lead.rt:19:5
 add-result-3 : tie.Need-add-result-3
 add-result-3 c = search needs
 
--- src/lead.rt:16:1
 returns : tie.Need-returns
 unfolding value
 returns c = (omega arith, omega arith)

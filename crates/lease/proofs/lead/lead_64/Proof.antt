@@ -1,4 +1,3 @@
-use borrow.Author.Tests.{eq-eqb, ne-eqb, le-leb, lt-leb, lt-ltb, le-ltb, not-true, not-false}
 use mathlib.Core.Path.{_≡_, sym, _∙_, ap}
 use native.Mathlib.Omega.{arith}
 use Rattle.lease.specs.Lead.{value, leading}
@@ -7,52 +6,37 @@ use Rattle.lease.proofs.LeadLaws.{first-eight}
 use borrow.Author.Needs.{needs}
 use Rattle.lease.proofs.lead.lead_64.Statement.{statement}
 use Rattle.lease.proofs.lead.lead_64.Tie as tie
-use Rattle.lease.proofs.lead.lead_64.Reads as reads
-use Rattle.lease.proofs.lead.lead_64.Lts as lts
-use Rattle.lease.proofs.lead.eight.Reads as eight-reads
-use Rattle.lease.proofs.lead.leading_of.Reads as leading-of-reads
 
--- src/lead.rt:55:19
 array-read-eight : tie.Need-array-read-eight
 array-read-eight c = search needs
 
--- src/lead.rt:55:25
 array-read-eight-2 : tie.Need-array-read-eight-2
 array-read-eight-2 c = search needs
 
--- src/lead.rt:55:31
 array-read-eight-3 : tie.Need-array-read-eight-3
 array-read-eight-3 c = search needs
 
--- src/lead.rt:55:37
 array-read-eight-4 : tie.Need-array-read-eight-4
 array-read-eight-4 c = search needs
 
--- src/lead.rt:55:43
 array-read-eight-5 : tie.Need-array-read-eight-5
 array-read-eight-5 c = search needs
 
--- src/lead.rt:55:49
 array-read-eight-6 : tie.Need-array-read-eight-6
 array-read-eight-6 c = search needs
 
--- src/lead.rt:55:55
 array-read-eight-7 : tie.Need-array-read-eight-7
 array-read-eight-7 c = search needs
 
--- src/lead.rt:55:61
 array-read-eight-8 : tie.Need-array-read-eight-8
 array-read-eight-8 c = search needs
 
--- src/lead.rt:55:9
 eight-requires : tie.Need-eight-requires
 eight-requires c κs = search needs
 
--- src/lead.rt:56:5
 leading-of-requires : tie.Need-leading-of-requires
 leading-of-requires c κs = search needs
 
--- src/lead.rt:52:1
 returns : tie.Need-returns
 returns c =
     let s = c .before .before .args in

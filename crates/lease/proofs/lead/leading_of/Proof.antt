@@ -1,36 +1,26 @@
-use borrow.Author.Tests.{eq-eqb, ne-eqb, le-leb, lt-leb, lt-ltb, le-ltb, not-true, not-false}
-use mathlib.Core.Path.{_≡_, sym, _∙_, ap}
-use native.Mathlib.Omega.{arith}
-use Rattle.lease.specs.Lead.{value, leading}
+use borrow.Author.Tests.{eq-eqb, ne-eqb, lt-ltb, le-ltb}
+use Rattle.lease.specs.Lead.{leading}
 use borrow.Author.Needs.{needs}
 use Rattle.lease.proofs.lead.leading_of.Statement.{statement}
 use Rattle.lease.proofs.lead.leading_of.Tie as tie
-use Rattle.lease.proofs.lead.leading_of.Reads as reads
-use Rattle.lease.proofs.lead.leading_of.Lts as lts
 
--- src/lead.rt:34:9
 returns : tie.Need-returns
 unfolding leading
 returns c = simp (eq-eqb _ _ (c .if1 .taken))
 
--- src/lead.rt:37:9
 returns-2 : tie.Need-returns-2
 unfolding leading
 returns-2 c = simp (ne-eqb _ _ (c .before .if1 .left), lt-ltb _ _ (c .if2 .taken))
 
--- src/lead.rt:39:18
 mul-k : tie.Need-mul-k
 mul-k c = search needs
 
--- src/lead.rt:39:13
 sub-k : tie.Need-sub-k
 sub-k c = search needs
 
--- src/lead.rt:40:5
 shl-result : tie.Need-shl-result
 shl-result c = search needs
 
--- src/lead.rt:30:1
 returns-3 : tie.Need-returns-3
 unfolding leading
 returns-3 c = simp (ne-eqb _ _ (c .before .if1 .left), le-ltb _ _ (c .if2 .left))

@@ -1,5 +1,4 @@
-use borrow.Author.Tests.{eq-eqb, ne-eqb, le-leb, lt-leb, lt-ltb, le-ltb, not-true, not-false}
-use mathlib.Core.Path.{_≡_, sym, _∙_}
+use borrow.Author.Tests.{lt-ltb, le-ltb}
 use Rattle.lease.specs.Lease.{ranksBefore}
 use Rattle.lease.proofs.order.is_before.Statement.{statement}
 use Rattle.lease.proofs.order.is_before.Tie as tie

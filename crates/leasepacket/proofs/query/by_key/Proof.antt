@@ -1,11 +1,7 @@
-use borrow.Author.Tests.{eq-eqb, ne-eqb, le-leb, lt-leb, lt-ltb, le-ltb, not-true, not-false}
-use mathlib.Core.Path.{_≡_, sym, _∙_, ap, refl, subst}
+use mathlib.Core.Path.{sym, _∙_}
 use native.Mathlib.Omega.{arith}
-use mathlib.Core.List.{List, [], _∷_}
 use Prim.Native.Nat.{_+_, _≤_}
 use lib.ListN.{length, take, drop}
-use Rattle.leasepacket.specs.Places.{value, In}
-use Rattle.leasepacket.specs.Query.{keyed}
 use Rattle.leasepacket.proofs.QueryLaws.{part-length, key-hardware, key-none, key-address, key-two, key-address-id, key-hardware-id, key-short, key-id}
 use borrow.Author.Needs.{needs}
 use Rattle.leasepacket.proofs.query.by_key.Statement.{statement}

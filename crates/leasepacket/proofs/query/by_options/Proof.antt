@@ -1,5 +1,4 @@
-use borrow.Author.Tests.{eq-eqb, ne-eqb, le-leb, lt-leb, lt-ltb, le-ltb, not-true, not-false}
-use mathlib.Core.Path.{_≡_, sym, _∙_, ap, refl, subst}
+use mathlib.Core.Path.{sym, _∙_, ap, subst}
 use Rattle.leasepacket.specs.Query.{opened}
 use Rattle.leasepacket.specs.Places.{meant, Inside}
 use borrow.Author.Needs.{needs}

@@ -1,5 +1,4 @@
-use borrow.Author.Tests.{eq-eqb, ne-eqb, le-leb, lt-leb, lt-ltb, le-ltb, not-true, not-false}
-use mathlib.Core.Path.{_≡_, sym, _∙_, ap, refl, subst}
+use mathlib.Core.Path.{sym, _∙_}
 use Rattle.leasepacket.specs.Query.{hardwareSet}
 use borrow.Author.Needs.{needs}
 use Rattle.leasepacket.proofs.query.is_hardware_set.Statement.{statement}

@@ -1,6 +1,6 @@
 use lib.ListN.{length}
-use borrow.Author.Tests.{eq-eqb, ne-eqb, le-leb, lt-leb, lt-ltb, le-ltb, not-true, not-false}
-use mathlib.Core.Path.{_≡_, sym, _∙_, ap, refl, subst}
+use borrow.Author.Tests.{eq-eqb, ne-eqb, lt-ltb, le-ltb}
+use mathlib.Core.Path.{sym, _∙_}
 use Rattle.leasepacket.specs.Query.{asking}
 use Rattle.octets.specs.Number.{numberAt}
 use borrow.Author.Needs.{needs}

@@ -1,6 +1,5 @@
-use borrow.Author.Tests.{eq-eqb, ne-eqb, le-leb, lt-leb, lt-ltb, le-ltb, not-true, not-false}
-use mathlib.Core.Path.{_≡_, sym, _∙_, ap, refl}
-use Rattle.leasequery.specs.Stages.{huntStart, refusalIn, keyFor, askedAt}
+use mathlib.Core.Path.{_∙_, ap}
+use Rattle.leasequery.specs.Stages.{noCandidates, refusalIn, keyFor, askedAt}
 use borrow.Author.Needs.{needs}
 use Rattle.leasequery.proofs.ask.ask.Statement.{statement}
 use Rattle.leasequery.proofs.ask.ask.Tie as tie
@@ -24,7 +23,7 @@ returns : tie.Need-returns
 returns c =
     let s = c .before .before .before .before .before .before .args in
     let e = c .before .before .before .first-refusal .ensures ∙ ap (λ b. askedAt (s .clock) b (s .p .now) (s .room)) (c .before .before .before .before .does-fit .ensures) in
-    c .start .ensures ∙ ap (λ n. huntStart (s .clock) n (c .before .key-for .result)) (c .before .before .refusal-of .ensures ∙ ap refusalIn e) ∙ ap (huntStart (s .clock) _) (c .before .key-for .ensures ∙ ap keyFor e)
+    c .start .ensures ∙ ap (λ n. noCandidates (s .clock) n (c .before .key-for .result)) (c .before .before .refusal-of .ensures ∙ ap refusalIn e) ∙ ap (noCandidates (s .clock) _) (c .before .key-for .ensures ∙ ap keyFor e)
 
 pub ask-spec : {M : Type 1} → statement M
 ask-spec =

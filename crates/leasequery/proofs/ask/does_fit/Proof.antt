@@ -3,17 +3,13 @@ use native.Mathlib.Omega.{arith}
 use borrow.Author.Tests.{le-leb, lt-leb}
 use Rattle.leasequery.proofs.ask.does_fit.Statement.{statement}
 use Rattle.leasequery.proofs.ask.does_fit.Tie as tie
-use Rattle.leasequery.proofs.ask.does_fit.Reads as reads
-use Rattle.leasequery.proofs.ask.does_fit.Lts as lts
 
--- src/ask.rt:132:9
 returns : tie.Need-returns
 returns c =
     let n = c .before .args .count in
     let h : 256 < n = omega (arith, c .if1 .taken) in
     simp (lt-leb n 256 h)
 
--- src/ask.rt:128:1
 returns-2 : tie.Need-returns-2
 returns-2 c =
     let n = c .before .args .count in

@@ -1,5 +1,5 @@
-use borrow.Author.Tests.{eq-eqb, ne-eqb, le-leb, lt-leb, lt-ltb, le-ltb, not-true, not-false}
-use mathlib.Core.Path.{_≡_, sym, _∙_, ap, refl}
+use borrow.Author.Tests.{lt-ltb, le-ltb, not-true, not-false}
+use mathlib.Core.Path.{sym, _∙_}
 use Rattle.leasequery.specs.Stages.{askedAt}
 use borrow.Author.Needs.{needs}
 use Rattle.leasequery.proofs.ask.first_refusal.Statement.{statement}

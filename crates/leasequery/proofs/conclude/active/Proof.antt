@@ -1,6 +1,4 @@
-use borrow.Author.Tests.{eq-eqb, ne-eqb, le-leb, lt-leb, lt-ltb, le-ltb, not-true, not-false}
-use mathlib.Core.Path.{_≡_, sym, _∙_, ap, refl}
-use Rattle.leasequery.specs.Answer.{told, written}
+use mathlib.Core.Path.{_∙_, ap}
 use borrow.Author.Needs.{needs}
 use Rattle.leasequery.proofs.conclude.active.Statement.{statement}
 use Rattle.leasequery.proofs.conclude.active.Tie as tie

@@ -1,5 +1,4 @@
-use borrow.Author.Tests.{eq-eqb, ne-eqb, le-leb, lt-leb, lt-ltb, le-ltb, not-true, not-false}
-use mathlib.Core.Path.{_≡_, sym, _∙_, ap, refl}
+use mathlib.Core.Path.{sym, _∙_, refl}
 use Rattle.octets.proofs.WriteLaws.{laid-nothing}
 use Rattle.leasequery.proofs.StageLaws.{con-refused, con-unknown, con-client, con-active, con-unassigned}
 use borrow.Author.Needs.{needs}
@@ -9,7 +8,7 @@ use Rattle.leasequery.proofs.conclude.conclude.Tie as tie
 returns : tie.Need-returns
 returns c =
     let s = c .before .before .before .before .args in
-    rw (con-refused (s .h) (s .server) (s .query .now) (s .buf .now) (c .if1 .taken)) (refl, sym (laid-nothing (s .buf .now)))
+    rw (con-refused (s .f) (s .server) (s .query .now) (s .buf .now) (c .if1 .taken)) (refl, sym (laid-nothing (s .buf .now)))
 
 other-requires : tie.Need-other-requires
 other-requires c κs = search needs
@@ -20,7 +19,7 @@ same-length c = search needs
 returns-2 : tie.Need-returns-2
 returns-2 c =
     let s = c .before .before .before .before .before .before .before .before .before .before .before .args in
-    rw (con-unknown (s .h) (s .server) (s .query .now) (s .buf .now) (c .before .before .before .before .before .before .before .if1 .left) (c .before .before .before .before .if2 .taken)) (c .before .before .other .ensures)
+    rw (con-unknown (s .f) (s .server) (s .query .now) (s .buf .now) (c .before .before .before .before .before .before .before .if1 .left) (c .before .before .before .before .if2 .taken)) (c .before .before .other .ensures)
 
 active-requires : tie.Need-active-requires
 active-requires c κs = search needs
@@ -31,7 +30,7 @@ same-length-2 c = search needs
 returns-3 : tie.Need-returns-3
 returns-3 c =
     let s = c .before .before .before .before .before .before .before .before .before .before .before .before .before .args in
-    rw (con-client (s .h) (s .server) (s .query .now) (s .buf .now) (c .before .before .before .before .before .before .before .before .before .if1 .left) (c .before .before .before .before .before .before .if2 .left) (c .before .before .before .before .if3 .taken)) (c .before .before .active .ensures)
+    rw (con-client (s .f) (s .server) (s .query .now) (s .buf .now) (c .before .before .before .before .before .before .before .before .before .if1 .left) (c .before .before .before .before .before .before .if2 .left) (c .before .before .before .before .if3 .taken)) (c .before .before .active .ensures)
 
 is-active-requires : tie.Need-is-active-requires
 is-active-requires c κs = search needs
@@ -45,7 +44,7 @@ same-length-3 c = search needs
 returns-4 : tie.Need-returns-4
 returns-4 c =
     let s = c .before .before .before .before .before .before .before .before .before .before .before .before .before .before .before .before .args in
-    rw (con-active (s .h) (s .server) (s .query .now) (s .buf .now) (c .before .before .before .before .before .before .before .before .before .before .before .before .if1 .left) (c .before .before .before .before .before .before .before .before .before .if2 .left) (c .before .before .before .before .before .before .before .if3 .left) (sym (c .before .before .before .before .before .is-active .ensures) ∙ c .before .before .before .before .if4 .taken)) (c .before .before .active2 .ensures)
+    rw (con-active (s .f) (s .server) (s .query .now) (s .buf .now) (c .before .before .before .before .before .before .before .before .before .before .before .before .if1 .left) (c .before .before .before .before .before .before .before .before .before .if2 .left) (c .before .before .before .before .before .before .before .if3 .left) (sym (c .before .before .before .before .before .is-active .ensures) ∙ c .before .before .before .before .if4 .taken)) (c .before .before .active2 .ensures)
 
 other-requires-2 : tie.Need-other-requires-2
 other-requires-2 c κs = search needs
@@ -56,7 +55,7 @@ same-length-4 c = search needs
 returns-5 : tie.Need-returns-5
 returns-5 c =
     let s = c .before .before .before .before .before .before .before .before .before .before .before .before .before .before .before .before .args in
-    rw (con-unassigned (s .h) (s .server) (s .query .now) (s .buf .now) (c .before .before .before .before .before .before .before .before .before .before .before .before .if1 .left) (c .before .before .before .before .before .before .before .before .before .if2 .left) (c .before .before .before .before .before .before .before .if3 .left) (sym (c .before .before .before .before .before .is-active .ensures) ∙ c .before .before .before .before .if4 .left)) (c .before .before .other2 .ensures)
+    rw (con-unassigned (s .f) (s .server) (s .query .now) (s .buf .now) (c .before .before .before .before .before .before .before .before .before .before .before .before .if1 .left) (c .before .before .before .before .before .before .before .before .before .if2 .left) (c .before .before .before .before .before .before .before .if3 .left) (sym (c .before .before .before .before .before .is-active .ensures) ∙ c .before .before .before .before .if4 .left)) (c .before .before .other2 .ensures)
 
 pub conclude-spec : {M : Type 1} → statement M
 conclude-spec =

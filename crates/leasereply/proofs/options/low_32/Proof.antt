@@ -2,14 +2,10 @@ use Rattle.leasereply.proofs.ReplyLaws.{low-octets}
 use borrow.Author.Needs.{needs}
 use Rattle.leasereply.proofs.options.low_32.Statement.{statement}
 use Rattle.leasereply.proofs.options.low_32.Tie as tie
-use Rattle.leasereply.proofs.options.low_32.Reads as reads
-use Rattle.leasereply.proofs.options.low_32.Lts as lts
 
--- src/options.rt:73:5
 cast-result : tie.Need-cast-result
 cast-result c = search needs
 
--- src/options.rt:70:1
 returns : tie.Need-returns
 returns c = low-octets (c .args .v)
 

@@ -1,5 +1,5 @@
 use Rattle.clock.specs.Clock.{secondsLeft, secondsSince}
-use mathlib.Core.Path.{_≡_, sym, ap}
+use mathlib.Core.Path.{_≡_, sym}
 use Rattle.octets.proofs.WriteLaws.{then}
 use Rattle.leasereply.specs.Reply.{ofLease}
 use borrow.Author.Needs.{needs}

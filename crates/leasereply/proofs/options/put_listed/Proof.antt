@@ -1,10 +1,9 @@
-use Prim.Native.Nat.{_*_}
-use mathlib.Core.Path.{_≡_, sym, ap}
+use mathlib.Core.Path.{_≡_}
 use borrow.Author.Tests.{lt-ltb, le-ltb}
 use native.Mathlib.Omega.{arith}
-use lib.ListN.{length, take}
+use lib.ListN.{length}
 use Rattle.octets.proofs.WriteLaws.{nothing, written, more, then}
-use Rattle.leasereply.specs.Reply.{flat, listed}
+use Rattle.leasereply.specs.Reply.{flat}
 use Rattle.leasereply.proofs.ReplyLaws.{addresses-length, optional-some}
 use borrow.Author.Needs.{needs}
 use Rattle.leasereply.proofs.options.put_listed.Statement.{statement}

@@ -1,6 +1,3 @@
-use mathlib.Core.Path.{_≡_, sym, ap}
-use Rattle.octets.specs.Number.{bigEndian}
-use lib.ListN.{length}
 use Rattle.octets.proofs.NumberLaws.{length-big-endian}
 use Rattle.octets.proofs.WriteLaws.{written, more}
 use borrow.Author.Needs.{needs}

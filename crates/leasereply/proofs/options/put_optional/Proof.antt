@@ -1,10 +1,11 @@
 use mathlib.Core.Path.{_≡_, sym, ap, _∙_}
 use Prim.Native.Nat.{_≤_, min}
 use native.Mathlib.Omega.{arith}
-use lib.ListN.{length, take}
+use lib.ListN.{length}
 use lib.Seq.{length-take-le}
 use Rattle.octets.proofs.WriteLaws.{written, more}
-use Rattle.leasereply.proofs.ReplyLaws.{optional-none, optional-some, take-min}
+use Rattle.lease.proofs.ListLaws.{take-min}
+use Rattle.leasereply.proofs.ReplyLaws.{optional-none, optional-some}
 use borrow.Author.Needs.{needs}
 use Rattle.leasereply.proofs.options.put_optional.Statement.{statement}
 use Rattle.leasereply.proofs.options.put_optional.Tie as tie
@@ -45,7 +46,7 @@ returns-2 c =
     let m = c .before .before .before .before .before .before .before .before .before .before .before .before .before .at-most-64 .result in
     let e : length (s .t4) ≡ 64 = search needs in
     let h : m ≤ 64 = omega (arith, c .before .before .before .before .before .before .before .before .before .before .before .before .before .at-most-64 .ensures) in
-    rw (take-min (s .t4) (s .n) m e (c .before .before .before .before .before .before .before .before .before .before .before .before .before .at-most-64 .ensures)) (optional-some (length-take-le m (s .t4) (omega arith)) (omega (arith, c .before .before .before .before .before .before .before .before .before .before .before .before .before .before .if1 .left, c .before .before .before .before .before .before .before .before .before .before .before .before .before .at-most-64 .ensures)) (more (more (written (c .before .before .before .before .before .before .before .before .before .before .before .put-octet .ensures)) (c .before .before .before .before .before .before .before .put-octet2 .ensures)) (c .before .before .put-octets .ensures)))
+    rw (take-min (s .t4) (s .n) m (c .before .before .before .before .before .before .before .before .before .before .before .before .before .at-most-64 .ensures ∙ ap (min (s .n)) (sym e))) (optional-some (length-take-le m (s .t4) (omega arith)) (omega (arith, c .before .before .before .before .before .before .before .before .before .before .before .before .before .before .if1 .left, c .before .before .before .before .before .before .before .before .before .before .before .before .before .at-most-64 .ensures)) (more (more (written (c .before .before .before .before .before .before .before .before .before .before .before .put-octet .ensures)) (c .before .before .before .before .before .before .before .put-octet2 .ensures)) (c .before .before .put-octets .ensures)))
 
 pub put-optional-spec : {M : Type 1} → statement M
 put-optional-spec =

@@ -1,8 +1,7 @@
-use native.Mathlib.Omega.{arith}
 use mathlib.Core.Path.{_≡_}
 use lib.ListN.{length}
-use Rattle.leasereply.specs.Reply.{otherReply, activeReply, listed}
-use Rattle.leasereply.proofs.ReplyLaws.{fits-not-query, fits-not-buffer, fits, other-short, active-fits}
+use Rattle.leasereply.specs.Reply.{activeReply, listed}
+use Rattle.leasereply.proofs.ReplyLaws.{fits-not-query, fits-not-buffer, fits, active-fits}
 use borrow.Author.Needs.{needs}
 use Rattle.leasereply.proofs.reply.write_active.Statement.{statement}
 use Rattle.leasereply.proofs.reply.write_active.Tie as tie

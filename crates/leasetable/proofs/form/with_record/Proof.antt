@@ -1,5 +1,5 @@
-use borrow.Author.Tests.{eq-eqb, ne-eqb, le-leb, lt-leb, lt-ltb, le-ltb, not-true, not-false}
-use mathlib.Core.Path.{_≡_, sym, _∙_, ap, refl}
+use borrow.Author.Tests.{lt-ltb, le-ltb}
+use mathlib.Core.Path.{sym, _∙_}
 use Rattle.leasetable.specs.Folds.{formAdd}
 use borrow.Author.Needs.{needs}
 use Rattle.leasetable.proofs.form.with_record.Statement.{statement}
