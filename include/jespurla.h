@@ -9,7 +9,8 @@
  * Everything else is the library's: every call takes every value of its arguments, returns, reads
  * and writes only what it was lent, keeps no state and needs no memory but the stack.
  *
- * Refusals are the numbers of document 01. A refused call leaves every lent buffer as it was.
+ * A refusal is a number, 0 for none; each call says below what its refusals mean and in which order
+ * they are tried. A refused call leaves every lent buffer as it was.
  */
 #ifndef JESPURLA_H
 #define JESPURLA_H
@@ -52,7 +53,7 @@ typedef struct {
  *
  * Result: the flags octet of the answer: 0, 1, 2 or 4.
  * Refusal: 10 where O is set, or S and N both.
- * Promise: the number is the entry of document 01's table of 32.
+ * Promise: the number is the entry of the table of 32 answers in crates/fqdn/specs/Flags.antt.
  */
 uint32_t jespurla_flag_decision(uint8_t flags, uint8_t honour_s, uint8_t honour_n);
 

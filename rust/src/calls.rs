@@ -103,7 +103,8 @@ mod c {
 ///
 /// Result: the flags octet of the answer: 0, 1, 2 or 4.
 /// Refusal: 10 where O is set, or S and N both.
-/// Promise: the number is the entry of document 01's table of 32.
+/// Promise: the number is the entry of the table of 32 answers in
+/// crates/fqdn/specs/Flags.antt.
 #[inline]
 pub fn flag_decision(flags: u8, honour_s: impl Into<u8>, honour_n: impl Into<u8>) -> Number {
     // SAFETY: numbers in, a number out; no memory is lent.
