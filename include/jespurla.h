@@ -6,6 +6,9 @@
  *  - A pointer that goes with a length points to as many octets, and is not null even where the
  *    length is 0.
  *  - A buffer that a call writes overlaps no other argument.
+ *  - Stack: a zone, 23,936 octets, goes in and out by value, so the zone's calls and the job step
+ *    want a stack of 256 KiB; 64 KiB are enough for the others. The tests run on stacks of these
+ *    sizes.
  * Everything else is the library's: every call takes every value of its arguments, returns, reads
  * and writes only what it was lent, keeps no state and needs no memory but the stack.
  *
