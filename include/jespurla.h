@@ -7,8 +7,8 @@
  *    length is 0.
  *  - A buffer that a call writes overlaps no other argument.
  *  - Stack: a zone, 23,936 octets, goes in and out by value, so the zone's calls and the job step
- *    want a stack of 256 KiB; 64 KiB are enough for the others. The tests run on stacks of these
- *    sizes.
+ *    want a stack of 256 KiB; 64 KiB are enough for the others. The tests run the job step and the
+ *    lease query, which take the most of each, on stacks of these sizes.
  * Everything else is the library's: every call takes every value of its arguments, returns, reads
  * and writes only what it was lent, keeps no state and needs no memory but the stack.
  *
