@@ -113,7 +113,9 @@ impl Table {
 
     /// Prints a line for each row, with the medians.
     pub fn print(self) {
-        println!("Nanoseconds a call. second: the second program behind the same interface as ours;");
+        println!(
+            "Nanoseconds a call. second: the second program behind the same interface as ours;"
+        );
         println!("lent: on references, where that interface hands structs in and back by value.");
         println!(
             "{:<50}{:>9}{:>9}{:>7}{:>9}{:>7}",
