@@ -1,40 +1,27 @@
 -- The laws of membership, of lists without repeats and of counting. Assumes nothing.
 use mathlib.Core.Path.{_≡_, refl, sym, _∙_, ap, subst}
-use mathlib.Core.Bool.{Bool, true, false, cond, not, _&&_, _||_}
+use mathlib.Core.Bool.{Bool, true, false, cond, not, _&&_, _||_, true≢false}
 use mathlib.Core.List.{List, [], _∷_, _++_}
 use Prim.Native.Nat.{ℕ, suc, _+_, _-_, _≤_, zero-le}
 use native.Mathlib.Omega.{arith}
 use lib.ListN.{length}
+use borrow.Table.Steps.{cases}
+use Rattle.octets.proofs.BoolLaws.{and-left, and-right}
 use Rattle.octets.specs.Compare.{sameOctets}
 use Rattle.octets.proofs.CompareLaws.{same-self, same-true}
 use Rattle.hosts.specs.Count.{Octets, member, distinct, Counts}
 use Rattle.hosts.specs.Addresses.{one, without}
 
--- ---- tests and cases
-
-pub true≢false : _≡_ {A = Bool} true false → ⊥
-true≢false e = let z : _≡_ {A = ℕ} 0 1 = cc in omega arith
-
-pub bool-case {ℓ} : {P : Type ℓ} (t : Bool) → (t ≡ true → P) → (t ≡ false → P) → P
-bool-case true f g = f refl
-bool-case false f g = g refl
-
-pub and-left : (a b : Bool) → (a && b) ≡ true → a ≡ true
-and-left true b e = refl
-and-left false b e = absurd (true≢false (sym e))
-
-pub and-right : (a b : Bool) → (a && b) ≡ true → b ≡ true
-and-right true b e = e
-and-right false b e = absurd (true≢false (sym e))
+-- ---- strings of octets, equal or not
 
 pub same-yes : (a b : Octets) → a ≡ b → sameOctets a b ≡ true
 same-yes a b e = rw e (same-self b)
 
 pub same-no : (a b : Octets) → ¬ (a ≡ b) → sameOctets a b ≡ false
-same-no a b q = bool-case (sameOctets a b) (λ e. absurd (q (same-true a b e))) (λ e. e)
+same-no a b q = cases (sameOctets a b) (λ e. absurd (q (same-true a b e))) (λ e. e)
 
 pub same-dec : (a b : Octets) → Dec (a ≡ b)
-same-dec a b = bool-case (sameOctets a b) (λ e. yes (same-true a b e)) (λ e. no (λ p. true≢false (sym (same-yes a b p) ∙ e)))
+same-dec a b = cases (sameOctets a b) (λ e. yes (same-true a b e)) (λ e. no (λ p. true≢false (sym (same-yes a b p) ∙ e)))
 
 -- ---- membership
 

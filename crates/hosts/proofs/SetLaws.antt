@@ -1,15 +1,16 @@
 -- The laws of address sets: what the structs' writes come to, whichever the family. Assumes nothing.
 use mathlib.Core.Path.{_≡_, refl, sym, _∙_, ap, fun-ext}
-use mathlib.Core.Bool.{Bool, true, false, cond, _||_}
+use mathlib.Core.Bool.{Bool, true, false, cond, _||_, true≢false}
 use mathlib.Core.List.{List, [], _∷_, _++_}
 use Prim.Native.Nat.{ℕ, _≤_, _<_}
 use lib.Dec.{leb, ltb}
 use lib.ListN.{length}
 use borrow.Author.Tests.{leb-true, le-leb, lt-leb, ltb-true, lt-ltb, le-ltb}
+use Rattle.octets.proofs.BoolLaws.{and-left, and-right}
 use Rattle.octets.specs.Compare.{sameOctets}
 use Rattle.hosts.specs.Count.{Octets, member, distinct, Counts}
 use Rattle.hosts.specs.Addresses.{Addresses, mark, setOf, sound, joined, without}
-use Rattle.hosts.proofs.CountLaws.{true≢false, and-left, and-right, same-dec, same-yes, same-no, member-last, member-without, distinct-last, distinct-without, counts-eq, counts-list, counts-mark}
+use Rattle.hosts.proofs.CountLaws.{same-dec, same-yes, same-no, member-last, member-without, distinct-last, distinct-without, counts-eq, counts-list, counts-mark}
 
 -- sets with the same addresses are equal: their counts follow
 pub set-eq : (s t : Addresses) → Counts (s .count) (s .has) → Counts (t .count) (t .has) → ((a : Octets) → s .has a ≡ t .has a) → s ≡ t

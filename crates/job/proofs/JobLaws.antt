@@ -1,12 +1,12 @@
 -- What a job's struct means: its stage, its kind, and a new job. Assumes nothing.
 use mathlib.Core.Path.{_≡_, refl, sym, _∙_, ap}
-use mathlib.Core.Bool.{Bool, true, false, cond, _&&_}
+use mathlib.Core.Bool.{Bool, true, false, cond, _&&_, true≢false}
 use Prim.Native.Nat.{ℕ, zero, suc}
 use native.Mathlib.Omega.{arith}
 use lib.Dec.{eqb}
 use borrow.Author.Tests.{eq-eqb}
+use Rattle.octets.proofs.BoolLaws.{and-left, and-right}
 use Rattle.hosts.specs.Count.{Octets}
-use Rattle.hosts.proofs.CountLaws.{true≢false, and-left, and-right}
 use Rattle.places.specs.declared.name.Name.{Name}
 use Rattle.places.specs.declared.entry.Dhcid.{Dhcid}
 use Rattle.places.specs.declared.entry.Address.{Address}

@@ -1,4 +1,4 @@
--- Laws of lists and of tests that the crates of lease queries share. Assumes nothing.
+-- Laws of lists that the crates of lease queries share. Assumes nothing.
 use mathlib.Core.Path.{_≡_, refl, sym, ap, _∙_}
 use mathlib.Core.Bool.{Bool, true, false, _&&_}
 use mathlib.Core.List.{List}
@@ -20,11 +20,3 @@ take-min l n m e =
     let a : length l ≤ n = omega arith in
     let b : length l ≤ m = omega (arith, e) in
     take-all n l a ∙ sym (take-all m l b))
-
-pub and-left : (a b : Bool) → (a && b) ≡ true → a ≡ true
-and-left true b e = refl
-and-left false b e = e
-
-pub and-right : (a b : Bool) → (a && b) ≡ true → b ≡ true
-and-right true b e = e
-and-right false b e = cc

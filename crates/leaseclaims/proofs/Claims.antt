@@ -8,12 +8,12 @@ use native.Mathlib.Omega.{arith}
 use lib.Dec.{ltb, leb, eqb}
 use lib.ListN.{length, getD, take, length-take}
 use borrow.Table.Steps.{cases}
+use Rattle.octets.proofs.BoolLaws.{and-left, and-right}
 use Rattle.clock.specs.declared.Moment.{Moment}
 use Rattle.clock.specs.Clock.{isMoment}
 use Rattle.lease.specs.declared.Lease.{Lease}
 use Rattle.lease.specs.Lease.{noLease, activeAt, rankOf, ranksBefore, wellFormed, lengthsFit, momentsFit, hardwareFits}
 use Rattle.leasepacket.specs.Query.{Asked, refused, byAddress, byHardware, byClientId, asking}
-use Rattle.lease.proofs.ListLaws.{and-left, and-right}
 use Rattle.leasetable.specs.Table.{tableFits, risesFrom, those, ranked}
 use Rattle.leasereply.specs.Reply.{activeReply}
 use Rattle.leasequery.specs.Answer.{Outcome, refusal, reply, told, written, hasKey, byAddressOf, byClientOf, leasesOf, answerBy, askedOf, answer}

@@ -10,6 +10,7 @@ use lib.ListN.{length, take, drop, getD, length-append, length-take, length-map}
 use lib.Dec.{ltb, lit<}
 use borrow.Author.Tests.{lt-ltb, le-ltb, ltb-false}
 use lib.Seq.{take-suc, length-take-le}
+use Rattle.octets.proofs.BoolLaws.{or-right}
 use Rattle.clock.specs.declared.Moment.{Moment}
 use Rattle.clock.specs.Clock.{moment, secondsLeft, secondsSince}
 use Rattle.octets.specs.Number.{bigEndian}
@@ -115,10 +116,6 @@ module _ (q b : List ℕ) where
   fits w l n h k s v =
       let r = v .fit (omega arith) in
       rw (le-ltb (length q) 240 h, le-ltb (length b) 648 k) (r .next ∙ zero-add (length w), r .list ∙ put-front b w, omega (arith, r .next, s))
-
-or-right : (a b : Bool) → (a || b) ≡ false → b ≡ false
-or-right true b e = cc
-or-right false b e = e
 
 listed-short : (n : ℕ) (ranks : List Rank) → length (listed n ranks) ≤ 63
 listed-short n ranks = go (ltb n 2 || ltb 63 n) refl

@@ -6,9 +6,9 @@ use Prim.Native.Nat.{ℕ, _<_}
 use lib.ListN.{length}
 use lib.Dec.{ltb, leb}
 use borrow.Author.Tests.{ltb-true}
+use Rattle.octets.proofs.BoolLaws.{and-left, and-right}
 use Rattle.lease.specs.declared.Lease.{Lease}
 use Rattle.lease.specs.Lease.{wellFormed}
-use Rattle.lease.proofs.ListLaws.{and-left, and-right}
 use Rattle.leasetable.specs.declared.form.Form.{Form}
 use Rattle.leasetable.specs.Table.{tableFits, risesFrom}
 use Rattle.leasetable.specs.Folds.{formGood, formBad, formStart, formAdd, formTurn}

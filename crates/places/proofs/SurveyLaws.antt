@@ -1,6 +1,6 @@
 -- The laws of a walk over the places of a zone. Assumes nothing.
 use mathlib.Core.Path.{_≡_, refl, sym, _∙_, ap}
-use mathlib.Core.Bool.{Bool, true, false, cond, not, _&&_}
+use mathlib.Core.Bool.{Bool, true, false, cond, not, _&&_, true≢false}
 use mathlib.Core.List.{List, [], _∷_, _++_, map, append-assoc, append-nil}
 use Prim.Native.Nat.{ℕ, zero, suc, _+_, _≤_, _<_}
 use native.Mathlib.Nat.{add-zero}
@@ -13,7 +13,7 @@ use borrow.Author.Tests.{ltb-true, lt-ltb, le-ltb}
 use Rattle.dname.specs.Name.{key, sameName}
 use Rattle.dname.proofs.NameLaws.{same-name-key, key-same-name}
 use Rattle.hosts.specs.Count.{Octets, member, distinct}
-use Rattle.hosts.proofs.CountLaws.{true≢false, member-here, member-on}
+use Rattle.hosts.proofs.CountLaws.{member-here, member-on}
 use Rattle.hosts.specs.Addresses.{one, list4, list6, sound}
 use Rattle.places.specs.declared.entry.Entry.{Entry}
 use Rattle.places.specs.declared.survey.Zone.{Zone}

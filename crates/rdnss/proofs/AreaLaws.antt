@@ -7,9 +7,9 @@ use native.Mathlib.Omega.{arith}
 use lib.Dec.{leb, eqb}
 use borrow.Author.Tests.{leb-true, le-leb, lt-leb, eq-eqb, ne-eqb}
 use lib.ListN.{length, take, drop, getD, length-drop, drop-of-length-le}
-use Rattle.serverlist.proofs.EntryLaws.{and-left, and-right}
 use native.Mathlib.Nat.{div-mul-le-self}
 use lib.Seq.{drop-drop, getD-drop, getD-take, length-take-le}
+use Rattle.octets.proofs.BoolLaws.{and-left, and-right}
 use Rattle.rdnss.specs.Area.{isWhole, options, typeOf, lengthOf, acts}
 use Rattle.rdnss.specs.Places.{OptionFits}
 

@@ -6,8 +6,9 @@ use lib.Dec.{ltb}
 use lib.ListN.{length, length-map}
 use native.Mathlib.Omega.{arith}
 use borrow.Author.Tests.{not-true, ltb-false}
+use Rattle.octets.proofs.BoolLaws.{and-both, and-left, and-right, or-left, or-right}
 use Rattle.serverlist.specs.Entries.{Kind, Marked, places, keep, oneOf, each, isAbout, isHeld, distinct, removed, renewed, evicted, roomed, unmarked, inserted, marking, named, namedAll}
-use Rattle.serverlist.proofs.EntryLaws.{cond-case, and-both, and-left, and-right, or-left, or-right}
+use Rattle.serverlist.proofs.EntryLaws.{cond-case}
 use Rattle.serverlist.proofs.SoundLaws.{Lawful, lawful-marking, part-each, part-none, part-distinct, removed-part, roomed-part, renewed-held, renewed-distinct, renewed-each, inserted-one, inserted-each}
 use Rattle.rdnss.specs.Claims.{Keeps, KeepsKeys}
 use Rattle.rdnss.specs.Claims.Keeps.{same, evicts}

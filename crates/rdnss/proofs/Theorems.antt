@@ -7,6 +7,7 @@ use native.Mathlib.Omega.{arith}
 use lib.Dec.{leb, eqb}
 use lib.ListN.{length}
 use borrow.Author.Tests.{le-leb}
+use Rattle.octets.proofs.BoolLaws.{and-both, and-left, and-right, or-left, or-right}
 use Rattle.clock.specs.Clock.{isMoment, isExpiry, isPast, expiryAfter}
 use Rattle.clock.specs.declared.Moment.{Moment}
 use Rattle.serverlist.specs.Entries.{Kind, places, unmarked, oneOf, each, isHeld, distinct, evicted}
@@ -14,7 +15,7 @@ use Rattle.serverlist.specs.Servers.{servers, held, packed, expires, isSound, i
 use Rattle.serverlist.specs.declared.Address6.{Address6}
 use Rattle.serverlist.specs.declared.Server.{Server}
 use Rattle.serverlist.specs.declared.ServerList.{ServerList}
-use Rattle.serverlist.proofs.EntryLaws.{Ordered, cond-case, and-both, and-left, and-right, or-left, or-right, one-some, each-cons, itself, before-all, through}
+use Rattle.serverlist.proofs.EntryLaws.{Ordered, cond-case, one-some, each-cons, itself, before-all, through}
 use Rattle.serverlist.proofs.SoundLaws.{part-each, part-distinct, keep-part}
 use Rattle.serverlist.proofs.ServerLaws.{ordered, lawful, is-expiry-after}
 use Rattle.serverlist.proofs.PackLaws.{packed-held}

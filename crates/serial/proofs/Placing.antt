@@ -2,7 +2,7 @@
 -- an add with its last, a remove with its first. But a remove that leaves a held name without address is put off, and in the order the
 -- name keeps an address, until the name is deleted or gets an address again: then all that were put off for it take their places. Assumes nothing.
 use mathlib.Core.Path.{_≡_, refl, sym, _∙_, ap, subst}
-use mathlib.Core.Bool.{Bool, true, false, cond, _&&_}
+use mathlib.Core.Bool.{Bool, true, false, cond, _&&_, true≢false}
 use mathlib.Core.List.{List, [], _∷_, _++_}
 use mathlib.Core.Logic.{_⊎_, inl, inr}
 use mathlib.Core.Option.{Option, none, some}
@@ -11,11 +11,13 @@ use native.Mathlib.Decide.{ℕ-discrete}
 use native.Mathlib.Omega.{arith}
 use lib.Dec.{eqb, ltb}
 use borrow.Author.Tests.{ltb-true, eq-eqb, ne-eqb}
+use borrow.Table.Steps.{cases}
+use Rattle.octets.proofs.BoolLaws.{and-left, and-right}
 use Rattle.octets.specs.Compare.{sameOctets}
 use Rattle.octets.proofs.CompareLaws.{same-self}
 use Rattle.dname.specs.Name.{key}
 use Rattle.hosts.specs.Count.{Octets}
-use Rattle.hosts.proofs.CountLaws.{true≢false, bool-case, and-left, and-right, same-no, same-dec, counts-eq}
+use Rattle.hosts.proofs.CountLaws.{same-no, same-dec, counts-eq}
 use Rattle.zone.specs.Zone.{Host, Zone, there, GoodHost, Form, put, NXDOMAIN, atName, heldBy, empty, address, newHost, left, fits}
 use Rattle.job.specs.Jobs.{add, remove, Arguments, End, done, conflict, noRoom, gaveUp, notOurs, gone, kept, Stage, beforeA, beforeB, beforeFirst, beforeSecond, ended, after, State, step}
 use Rattle.serial.specs.Demand.{Verdict, saidDone, saidConflict, removed, verdict, stands, times, In, Before}
@@ -506,7 +508,7 @@ module _ (J : ℕ → Arguments) (z₀ : Zone) (g₀ : Form z₀) where
       move-A : Next (step j z (beforeA c) .zone) (step j z (beforeA c) .stage)
       move-A =
           option-case (atName (j .update) z)
-          (λ e. bool-case (ltb (z .size) 64)
+          (λ e. cases (ltb (z .size) 64)
           (λ r. via (beforeA c) (step-A-new j z c e r)
           (writes live-A (ap outcome fi) (ended (done (suc c))) saidDone refl tt (absent-x e .0) (newHost (j .update)) (new-full (j .update)) (done 1)
           (whole-new j x₀ kind-A (absent-x e .1) (let l : z .size < 64 = ltb-true (z .size) 64 r in omega (arith, size-same))) refl))
@@ -579,8 +581,8 @@ module _ (J : ℕ → Arguments) (z₀ : Zone) (g₀ : Form z₀) where
       move-B : Next (step j z (beforeB c) .zone) (step j z (beforeB c) .stage)
       move-B =
           option-case (atName (j .update) z) (λ e. via (beforeB c) (step-B-absent j z c e) (again (suc c)))
-          (λ h e. bool-case (heldBy (j .update .dhcid) (h .owner))
-          (λ q. bool-case (fits (j .update) (left (j .update .family) (j .policy) h))
+          (λ h e. cases (heldBy (j .update .dhcid) (h .owner))
+          (λ q. cases (fits (j .update) (left (j .update .family) (j .policy) h))
           (λ r. via (beforeB c) (step-B-done j z h e c q r) (done-B h e q r))
           (λ r. via (beforeB c) (step-B-full j z h e c q r) (quietly live-B (ap outcome fi) (ended (noRoom (suc c))) refl tt)))
           (λ q. via (beforeB c) (step-B-other j z h e c q) (other-B h e q)))
@@ -622,7 +624,7 @@ module _ (J : ℕ → Arguments) (z₀ : Zone) (g₀ : Form z₀) where
 
           go : At z f x₀ m (v .put-off m) → Next z′ beforeSecond
           go (shown a p w) =
-              bool-case (bare c)
+              cases (bare c)
               (λ b. defer live-1 (ap outcome fi) z′ kind-1 (put-off (j .update .name) (some c) z)
               (emptied c h i [] (ap (λ (l : List ℕ). l ++ (i ∷ [])) a) (put-at (j .update .name) (some c) z) b (p ∙ e) (sym (address-owner (j .update) false h)) b (me, tt)))
               (λ b. writes live-1 (ap outcome fi) beforeSecond removed refl kind-1 a c b kept
@@ -637,7 +639,7 @@ module _ (J : ℕ → Arguments) (z₀ : Zone) (g₀ : Form z₀) where
       move-1 : Next (step j z beforeFirst .zone) (step j z beforeFirst .stage)
       move-1 =
           option-case (atName (j .update) z) (λ e. via beforeFirst (step-1-absent j z e) (not-ours-1 (whole-absent j x₀ kind-1 (absent-x e .1))))
-          (λ h e. bool-case (heldBy (j .update .dhcid) (h .owner)) (λ q. via beforeFirst (step-1-own j z h e q) (own-1 h e q))
+          (λ h e. cases (heldBy (j .update .dhcid) (h .owner)) (λ q. via beforeFirst (step-1-own j z h e q) (own-1 h e q))
           (λ q. via beforeFirst (step-1-other j z h e q)
           (let g = owner-x h e in not-ours-1 (whole-other j x₀ (g .0) (g .1) kind-1 (ap (heldBy (j .update .dhcid)) (g .2) ∙ q)))))
 
@@ -671,7 +673,7 @@ module _ (J : ℕ → Arguments) (z₀ : Zone) (g₀ : Form z₀) where
       move-2 : Next (step j z beforeSecond .zone) (step j z beforeSecond .stage)
       move-2 =
           option-case (atName (j .update) z) (λ e. via beforeSecond (step-2-absent j z e) (keep-2 (λ h p b w. some≢none (sym p ∙ e))))
-          (λ h e. bool-case (heldBy (j .update .dhcid) (h .owner) && empty h) (λ q. via beforeSecond (step-2-gone j z h e q) (gone-2 h e q))
+          (λ h e. cases (heldBy (j .update .dhcid) (h .owner) && empty h) (λ q. via beforeSecond (step-2-gone j z h e q) (gone-2 h e q))
           (λ q. via beforeSecond (step-2-kept j z h e q) (keep-2 (λ k p b w. no-way h e q k p b w))))
         where
           no-way : (h : Host) → z .at m ≡ some h → (heldBy (j .update .dhcid) (h .owner) && empty h) ≡ false → (k : Host) → z .at m ≡ some k → bare k ≡ true → Waits f m k i → ⊥

@@ -2,7 +2,7 @@
 -- address and adds it again in between, so the remove finds an address and the name is kept; alone, before the add or after it, the remove
 -- finds none, and the name is gone. Assumes nothing.
 use mathlib.Core.Path.{_≡_, refl, sym, _∙_, ap, subst}
-use mathlib.Core.Bool.{true}
+use mathlib.Core.Bool.{true, true≢false}
 use mathlib.Core.List.{List, [], _∷_}
 use mathlib.Core.Option.{Option, some}
 use Prim.Native.Nat.{ℕ, zero, suc}
@@ -12,7 +12,6 @@ use Rattle.octets.specs.Compare.{sameOctets}
 use Rattle.dname.specs.Name.{key}
 use Rattle.hosts.specs.Count.{member}
 use Rattle.hosts.specs.Addresses.{mark}
-use Rattle.hosts.proofs.CountLaws.{true≢false}
 use Rattle.zone.specs.Zone.{Zone, with, put, heldBy, empty, address, requestA, left, fits, writeB, requestB, removeAddress, removeName}
 use Rattle.job.specs.Jobs.{Arguments, End, done, conflict, gone, kept, Stage, ended, fresh, after, afterFirst, afterSecond, step, Sends, hasEnded, sends}
 use Rattle.serial.specs.Demand.{going, times, Story}

@@ -5,7 +5,7 @@ use mathlib.Core.Option.{Option, none, some}
 use Prim.Native.Nat.{ℕ, suc, _<_}
 use lib.Dec.{ltb}
 use borrow.Author.Tests.{ltb-true, ltb-false, lt-ltb}
-use Rattle.hosts.proofs.CountLaws.{bool-case}
+use borrow.Table.Steps.{cases}
 use Rattle.zone.specs.Zone.{Host, Zone, Form, put, Update, NXDOMAIN, atName, heldBy, empty, address, newHost, left, fits}
 use Rattle.job.specs.Jobs.{add, remove, Arguments, End, done, conflict, noRoom, notOurs, gone, kept, Stage, beforeA, beforeB, beforeFirst, beforeSecond, ended, firstStage, fresh, after, afterFirst, afterSecond, State, step, Sends, hasEnded, sends}
 use Rattle.serial.specs.Demand.{Verdict, removed, verdict}
@@ -168,20 +168,20 @@ module _ (j : Arguments) (z : Zone) where
   pub quiet : (s : Stage) → Quiet s (step j z s)
   quiet (beforeA n) =
       option-case (atName (j .update) z)
-      (λ e. bool-case (ltb (z .size) 64) (λ r. quiet-by (beforeA n) (step-A-new j z n e r) (λ p. absurd (some≢none p))) (λ r. quiet-by (beforeA n) (step-A-full j z n e r) (λ p. (refl, refl))))
+      (λ e. cases (ltb (z .size) 64) (λ r. quiet-by (beforeA n) (step-A-new j z n e r) (λ p. absurd (some≢none p))) (λ r. quiet-by (beforeA n) (step-A-full j z n e r) (λ p. (refl, refl))))
       (λ h e. quiet-by (beforeA n) (step-A-there j z n h e) (λ p. (refl, refl)))
   quiet (beforeB n) =
       option-case (atName (j .update) z) (λ e. quiet-by (beforeB n) (step-B-absent j z n e) (λ p. (refl, refl)))
-      (λ h e. bool-case (heldBy (j .update .dhcid) (h .owner))
-      (λ o. bool-case (fits (j .update) (left (j .update .family) (j .policy) h)) (λ r. quiet-by (beforeB n) (step-B-done j z h e n o r) (λ p. absurd (some≢none p)))
+      (λ h e. cases (heldBy (j .update .dhcid) (h .owner))
+      (λ o. cases (fits (j .update) (left (j .update .family) (j .policy) h)) (λ r. quiet-by (beforeB n) (step-B-done j z h e n o r) (λ p. absurd (some≢none p)))
       (λ r. quiet-by (beforeB n) (step-B-full j z h e n o r) (λ p. (refl, refl))))
       (λ o. quiet-by (beforeB n) (step-B-other j z h e n o) (λ p. (refl, refl))))
   quiet beforeFirst =
       option-case (atName (j .update) z) (λ e. quiet-by beforeFirst (step-1-absent j z e) (λ p. absurd (some≢none p)))
-      (λ h e. bool-case (heldBy (j .update .dhcid) (h .owner)) (λ o. quiet-by beforeFirst (step-1-own j z h e o) (λ p. absurd (some≢none p)))
+      (λ h e. cases (heldBy (j .update .dhcid) (h .owner)) (λ o. quiet-by beforeFirst (step-1-own j z h e o) (λ p. absurd (some≢none p)))
       (λ o. quiet-by beforeFirst (step-1-other j z h e o) (λ p. absurd (some≢none p))))
   quiet beforeSecond =
       option-case (atName (j .update) z) (λ e. quiet-by beforeSecond (step-2-absent j z e) (λ p. absurd (some≢none p)))
-      (λ h e. bool-case (heldBy (j .update .dhcid) (h .owner) && empty h) (λ o. quiet-by beforeSecond (step-2-gone j z h e o) (λ p. absurd (some≢none p)))
+      (λ h e. cases (heldBy (j .update .dhcid) (h .owner) && empty h) (λ o. quiet-by beforeSecond (step-2-gone j z h e o) (λ p. absurd (some≢none p)))
       (λ o. quiet-by beforeSecond (step-2-kept j z h e o) (λ p. absurd (some≢none p))))
   quiet (ended e) = quiet-by (ended e) (step-ended j z e) (λ p. (refl, p))

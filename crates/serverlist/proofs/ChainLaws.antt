@@ -8,12 +8,12 @@ use lib.Dec.{ltb, leb}
 use lib.ListN.{length, take, drop, getD, replicate}
 use lib.Seq.{length-take-le}
 use borrow.Author.Tests.{ltb-true, ltb-false, lt-ltb, le-ltb}
+use Rattle.octets.proofs.BoolLaws.{and-left, and-right, or-left, or-right}
 use Rattle.serverlist.specs.Entries.{keep, oneOf}
 use Rattle.serverlist.specs.Servers.{servers, blank}
 use Rattle.serverlist.specs.Places.{place, earlierOf, evictPlace}
 use Rattle.serverlist.specs.declared.Server.{Server}
 use Rattle.serverlist.specs.declared.eviction.Candidate.{Candidate}
-use Rattle.serverlist.proofs.EntryLaws.{and-left, and-right, or-left, or-right}
 use Rattle.serverlist.proofs.PlaceLaws.{fill, one-place, place-here, place-next, place-end, evict-last, evict-keep, evict-take}
 use Rattle.serverlist.proofs.ServerLaws.{ordered}
 

@@ -7,6 +7,7 @@ use native.Mathlib.Numerals.{add-one}
 use native.Mathlib.Omega.{arith}
 use lib.ListN.{length, take, getD}
 use lib.Seq.{take-suc}
+use Rattle.octets.proofs.BoolLaws.{and-left, and-right, or-left, or-right}
 use Rattle.serverlist.specs.Entries.{Kind, keep, oneOf, each}
 use Rattle.serverlist.specs.Places.{evictPlace}
 
@@ -15,25 +16,6 @@ module _ {A : Type 0} (P : A → Type 0) where
   pub cond-case : (b : Bool) {x y : A} → (b ≡ true → P x) → (b ≡ false → P y) → P (cond b x y)
   cond-case true f g = f refl
   cond-case false f g = g refl
-
-pub and-both : (a b : Bool) → a ≡ true → b ≡ true → (a && b) ≡ true
-and-both a b h k = rw (h, k)
-
-pub and-left : (a b : Bool) → (a && b) ≡ true → a ≡ true
-and-left true b h = refl
-and-left false b h = h
-
-pub and-right : (a b : Bool) → (a && b) ≡ true → b ≡ true
-and-right true b h = h
-and-right false b h = absurd (false≢true h)
-
-pub or-left : (a b : Bool) → (a || b) ≡ false → a ≡ false
-or-left true b h = h
-or-left false b h = refl
-
-pub or-right : (a b : Bool) → (a || b) ≡ false → b ≡ false
-or-right true b h = absurd (true≢false h)
-or-right false b h = h
 
 module _ {E : Type 0} (p : E → Bool) where
   pub one-nil : oneOf p [] ≡ false

@@ -9,6 +9,7 @@ use lib.Dec.{leb}
 use lib.ListN.{length, drop, getD, drop-of-length-le}
 use lib.Seq.{drop-cons, drop-drop}
 use borrow.Author.Tests.{le-leb, lt-leb, leb-true}
+use Rattle.octets.proofs.BoolLaws.{and-left}
 use Rattle.clock.specs.Clock.{isMoment, isExpiry, isPast}
 use Rattle.clock.specs.declared.Moment.{Moment}
 use Rattle.serverlist.specs.Entries.{places, isAbout, isHeld, oneOf, each, distinct}
@@ -16,7 +17,7 @@ use Rattle.serverlist.specs.Servers.{servers, held, packed, blank, expir
 use Rattle.serverlist.specs.Places.{atClock}
 use Rattle.serverlist.specs.declared.Server.{Server}
 use Rattle.serverlist.specs.declared.ServerList.{ServerList}
-use Rattle.serverlist.proofs.EntryLaws.{keep-length, and-left}
+use Rattle.serverlist.proofs.EntryLaws.{keep-length}
 use Rattle.serverlist.proofs.PlaceLaws.{take-short}
 
 -- no address stands twice and each expiry is a moment or never

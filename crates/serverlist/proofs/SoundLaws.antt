@@ -5,8 +5,9 @@ use mathlib.Core.List.{List, [], _∷_, Sublistᴰ, Sublistᴰ·slnil, Sublist�
 use lib.Dec.{ltb}
 use lib.ListN.{length}
 use borrow.Author.Tests.{not-true}
+use Rattle.octets.proofs.BoolLaws.{and-left, and-right, or-left, or-right}
 use Rattle.serverlist.specs.Entries.{Kind, Marked, places, keep, oneOf, each, isAbout, isHeld, distinct, removed, renewed, evicted, roomed, inserted, marking}
-use Rattle.serverlist.proofs.EntryLaws.{cond-case, and-left, and-right, or-left, or-right}
+use Rattle.serverlist.proofs.EntryLaws.{cond-case}
 
 -- Whether two keys are the same is an equivalence, an entry is about the key it is made with, and a renewal leaves that.
 pub record Lawful {K X E : Type 0} (kind : Kind K X E) : Type 0 where

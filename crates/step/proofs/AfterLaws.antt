@@ -3,7 +3,7 @@ use mathlib.Core.Path.{_≡_, refl, sym, _∙_, ap}
 use mathlib.Core.Bool.{Bool, true, false, cond}
 use Prim.Native.Nat.{ℕ}
 use native.Mathlib.Omega.{arith}
-use Rattle.hosts.proofs.CountLaws.{and-left}
+use Rattle.octets.proofs.BoolLaws.{and-left}
 use Rattle.places.specs.declared.survey.Zone.{Zone}
 use Rattle.places.specs.Meaning.{nameOf, isFull, formed}
 use Rattle.zone.specs.Meaning.{listed, policyOf, updateOf, zoneOf}

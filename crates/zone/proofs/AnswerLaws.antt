@@ -3,7 +3,7 @@ use mathlib.Core.Path.{_≡_, refl, _∙_}
 use mathlib.Core.Bool.{true, cond, and-true}
 use Prim.Native.Nat.{ℕ}
 use lib.Dec.{eqb, leb}
-use Rattle.hosts.proofs.CountLaws.{and-left}
+use Rattle.octets.proofs.BoolLaws.{and-left}
 use Rattle.zone.specs.Zone.{success, YXDOMAIN, NXDOMAIN, NXRRSET, noRoom, keepOthers}
 use Rattle.zone.specs.Meaning.{listed, policyOf}
 use Rattle.zone.specs.Promise.{numberOf}

@@ -1,15 +1,16 @@
 -- Bare names: held, and without an address. What the requests make of them. Assumes nothing.
 use mathlib.Core.Path.{_≡_, refl, sym, _∙_, ap, subst, fun-ext}
-use mathlib.Core.Bool.{Bool, true, false, cond, _&&_, and-false}
+use mathlib.Core.Bool.{Bool, true, false, cond, _&&_, and-false, true≢false}
 use mathlib.Core.Option.{Option, none, some}
 use Prim.Native.Nat.{ℕ, _+_, _-_, _≤_, _<_}
 use native.Mathlib.Omega.{arith}
 use lib.Dec.{eqb}
 use borrow.Author.Tests.{eqb-true, ne-eqb}
+use Rattle.octets.proofs.BoolLaws.{and-left, and-right}
 use Rattle.octets.specs.Compare.{sameOctets}
 use Rattle.hosts.specs.Count.{Octets, Counts}
 use Rattle.hosts.specs.Addresses.{Family, four, six, Addresses, nothing, one, mark}
-use Rattle.hosts.proofs.CountLaws.{true≢false, and-left, and-right, same-no, same-dec, counts-le, counts-none, counts-mark}
+use Rattle.hosts.proofs.CountLaws.{same-no, same-dec, counts-le, counts-none, counts-mark}
 use Rattle.zone.specs.Zone.{Host, Zone, there, GoodHost, isFamily, with, Update, Policy, keepOthers, oneOfFamily, onlyThis, heldBy, empty, address, newHost, left, fits}
 use Rattle.zone.proofs.ZoneLaws.{Named, owner-eq, address-own, new-own, good-add, good-new}
 

@@ -8,12 +8,13 @@ use native.Mathlib.Omega.{arith}
 use lib.Dec.{eqb, leb, ltb}
 use lib.ListN.{length, getD, take}
 use borrow.Author.Tests.{eq-eqb, ne-eqb, leb-true, le-leb}
+use Rattle.octets.proofs.BoolLaws.{and-left, and-right}
 use Rattle.octets.specs.Compare.{sameOctets}
 use Rattle.hosts.specs.Count.{Octets, member, distinct}
 use Rattle.hosts.specs.Addresses.{Family, four, six, Addresses, nothing, mark, list4, list6, setOf, sound, joined, without}
 use Rattle.hosts.specs.declared.set4.Set4.{Set4}
 use Rattle.hosts.specs.declared.set6.Set6.{Set6}
-use Rattle.hosts.proofs.CountLaws.{and-left, and-right, distinct-nil, distinct-without}
+use Rattle.hosts.proofs.CountLaws.{distinct-nil, distinct-without}
 use Rattle.hosts.proofs.SetLaws.{sound-few, sound-once, sound-both, joined-once, joined-mark, without-mark}
 use Rattle.places.specs.declared.entry.Entry.{Entry}
 use Rattle.places.specs.declared.entry.Address.{Address}

@@ -1,6 +1,6 @@
 -- How what is written at one place becomes what is written at a name; the form before it and after it. Assumes nothing.
 use mathlib.Core.Path.{_≡_, refl, sym, _∙_, ap, subst}
-use mathlib.Core.Bool.{Bool, true, false, cond, not, _&&_, _||_}
+use mathlib.Core.Bool.{Bool, true, false, cond, not, _&&_, _||_, true≢false}
 use mathlib.Core.List.{List, [], _∷_, map}
 use mathlib.Core.Option.{Option, none, some}
 use Prim.Native.Nat.{ℕ, zero, suc, _+_, _≤_, _<_, zero-le, suc-le-suc}
@@ -8,12 +8,14 @@ use native.Mathlib.Omega.{arith}
 use lib.Dec.{eqb}
 use lib.ListN.{length, getD, set, take, length-set}
 use borrow.Author.Tests.{not-true, not-false, eqb-true, eq-eqb}
+use borrow.Table.Steps.{cases}
+use Rattle.octets.proofs.BoolLaws.{and-left, and-right}
 use Rattle.octets.specs.Compare.{sameOctets}
 use Rattle.octets.proofs.CompareLaws.{same-true}
 use Rattle.dname.specs.Name.{key, sameName}
 use Rattle.hosts.specs.Count.{Octets, member, distinct}
 use Rattle.hosts.specs.Addresses.{Family, four, six}
-use Rattle.hosts.proofs.CountLaws.{true≢false, bool-case, and-left, and-right, same-yes, same-no, same-dec, counts-list, distinct-head, distinct-rest, distinct-cons}
+use Rattle.hosts.proofs.CountLaws.{same-yes, same-no, same-dec, counts-list, distinct-head, distinct-rest, distinct-cons}
 use Rattle.hosts.proofs.SetLaws.{sound-few, sound-once}
 use Rattle.places.specs.declared.name.Name.{Name}
 use Rattle.places.specs.declared.entry.Entry.{Entry}
@@ -198,7 +200,7 @@ alone-found (x ∷ es) zero b k p u d =
     let r : keyOf x ≡ k = same-true (keyOf x) k (and-right (used x) (sameOctets (keyOf x) k) u) in
     (λ t. r, or-none (look es k) (look-keys es k ∙ ap (λ (t : Octets). member t (keys es)) (sym r) ∙ head-once x es (and-left (used x) (sameOctets (keyOf x) k) u) d))
 alone-found (x ∷ es) (suc i) b k p u d =
-    (bool-case (used x && sameOctets (keyOf x) k) (λ h. absurd (twice h)) (λ h. h), alone-found es i b k (omega arith) u (tail-distinct x es d))
+    (cases (used x && sameOctets (keyOf x) k) (λ h. absurd (twice h)) (λ h. h), alone-found es i b k (omega arith) u (tail-distinct x es d))
   where
     twice : (used x && sameOctets (keyOf x) k) ≡ true → ⊥
     twice h =
@@ -209,7 +211,7 @@ alone-free : (es : List Entry) (i : ℕ) (b : Entry) (k : Octets) → i < length
 alone-free [] i b k p u h = tt
 alone-free (x ∷ es) zero b k p u h = (λ t. absurd (true≢false (sym t ∙ u)), sym (look-past x es k (rw u refl)) ∙ h)
 alone-free (x ∷ es) (suc i) b k p u h =
-    let c : (used x && sameOctets (keyOf x) k) ≡ false = bool-case (used x && sameOctets (keyOf x) k) (λ t. absurd (some≢none (sym (look-here x es k t) ∙ h))) (λ t. t) in
+    let c : (used x && sameOctets (keyOf x) k) ≡ false = cases (used x && sameOctets (keyOf x) k) (λ t. absurd (some≢none (sym (look-here x es k t) ∙ h))) (λ t. t) in
     (c, alone-free es i b k (omega arith) u (sym (look-past x es k c) ∙ h))
 
 look-found : (es : List Entry) (i : ℕ) (b : Entry) (k : Octets) → i < length es → Alone i k es → (used (getD es i b) && sameOctets (keyOf (getD es i b)) k) ≡ true

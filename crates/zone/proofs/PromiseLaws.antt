@@ -8,8 +8,8 @@ use lib.Dec.{eqb, ltb}
 use lib.ListN.{length}
 use lib.Seq.{set-out}
 use borrow.Author.Tests.{eq-eqb, ne-eqb, le-leb, lt-leb, ltb-true, ltb-false}
+use borrow.Table.Steps.{cases}
 use Rattle.hosts.specs.Count.{Octets, distinct}
-use Rattle.hosts.proofs.CountLaws.{bool-case}
 use Rattle.places.specs.declared.entry.Entry.{Entry}
 use Rattle.places.specs.declared.survey.Zone.{Zone}
 use Rattle.places.specs.declared.survey.Survey.{Survey}
@@ -66,7 +66,7 @@ module _ (z : Zone) (n : Octets) (family policy : ℕ) where
   refusal-listed l = rw l
 
   pub not-17 : (refusalOf z n family policy ≡ 17 → ⊥) → formed z ≡ true
-  not-17 e = bool-case (formed z) (λ f. f) (λ f. absurd (e (refusal-form f)))
+  not-17 e = cases (formed z) (λ f. f) (λ f. absurd (e (refusal-form f)))
 
   -- each number exactly when
   pub record Passed : Type 0 where
@@ -76,9 +76,9 @@ module _ (z : Zone) (n : Octets) (family policy : ℕ) where
 
   pub not-refused : refusalOf z n family policy ≡ 0 → Passed
   not-refused e =
-      bool-case (formed z)
-      (λ f. bool-case (listed family policy)
-      (λ l. bool-case (isFull n) (λ m. record { form = f; numbers = l; name = m }) (λ m. absurd (wrong 11 (refusal-name f l m) (λ q. omega arith))))
+      cases (formed z)
+      (λ f. cases (listed family policy)
+      (λ l. cases (isFull n) (λ m. record { form = f; numbers = l; name = m }) (λ m. absurd (wrong 11 (refusal-name f l m) (λ q. omega arith))))
       (λ l. absurd (wrong 18 (refusal-number f l) (λ q. omega arith))))
       (λ f. absurd (wrong 17 (refusal-form f) (λ q. omega arith)))
     where
@@ -91,9 +91,9 @@ module _ (z : Zone) (n : Octets) (family policy : ℕ) where
   -- the check says 17 exactly when the form fails
   pub says-17 : refusalOf z n family policy ≡ 17 → formed z ≡ false
   says-17 e =
-      bool-case (formed z)
-      (λ f. bool-case (listed family policy)
-      (λ l. bool-case (isFull n) (λ m. absurd (wrong 0 (refusal-none f l m) (λ q. omega arith))) (λ m. absurd (wrong 11 (refusal-name f l m) (λ q. omega arith))))
+      cases (formed z)
+      (λ f. cases (listed family policy)
+      (λ l. cases (isFull n) (λ m. absurd (wrong 0 (refusal-none f l m) (λ q. omega arith))) (λ m. absurd (wrong 11 (refusal-name f l m) (λ q. omega arith))))
       (λ l. absurd (wrong 18 (refusal-number f l) (λ q. omega arith))))
       (λ f. f)
     where

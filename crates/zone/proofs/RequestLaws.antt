@@ -8,9 +8,10 @@ use native.Mathlib.Omega.{arith}
 use lib.Dec.{ltb}
 use lib.ListN.{length}
 use borrow.Author.Tests.{ltb-true, ltb-false}
+use borrow.Table.Steps.{cases}
 use Rattle.dname.specs.Name.{key}
 use Rattle.hosts.specs.Count.{Octets, distinct}
-use Rattle.hosts.proofs.CountLaws.{bool-case, distinct-nil}
+use Rattle.hosts.proofs.CountLaws.{distinct-nil}
 use Rattle.places.specs.declared.entry.Entry.{Entry}
 use Rattle.places.specs.declared.survey.Zone as place
 use Rattle.zone.specs.Zone.{Host, Zone, Form, put, Update, Policy, Answer, success, YXDOMAIN, NXDOMAIN, NXRRSET, noRoom, Outcome, says, atName, heldBy, empty, address, newHost, left, fits, requestA, requestB, removeAddress, removeName}
@@ -57,7 +58,7 @@ module _ (u : Update) (z : Zone) where
   pub A-effect : Effect u z (requestA u z)
   A-effect =
       option-case (atName u z)
-      (λ e. bool-case (ltb (z .size) 64)
+      (λ e. cases (ltb (z .size) 64)
       (λ r. let l = ltb-true (z .size) 64 r in wrote (some (newHost u)) (λ g. form-new (u .name) (newHost u) z g (good-new u) e l) (A-new u z e l))
       (λ r. unchanged noRoom full (A-full u z e (ltb-false (z .size) 64 r))))
       (λ h e. unchanged YXDOMAIN yx (A-there u z h e))
@@ -65,8 +66,8 @@ module _ (u : Update) (z : Zone) where
   pub B-effect : (p : Policy) → Effect u z (requestB p u z)
   B-effect p =
       option-case (atName u z) (λ e. unchanged NXDOMAIN nx (B-absent u z p e))
-      (λ h e. bool-case (heldBy (u .dhcid) (h .owner))
-      (λ o. bool-case (fits u (left (u .family) p h))
+      (λ h e. cases (heldBy (u .dhcid) (h .owner))
+      (λ o. cases (fits u (left (u .family) p h))
       (λ r. wrote (some (address u true (left (u .family) p h)))
       (λ g. form-change (u .name) (address u true (left (u .family) p h)) h z g (good-add u (left (u .family) p h) (good-left (u .family) p h (g .hosts (key (u .name)) h e)) r) e)
       (B-done u z h e p o r))
@@ -76,14 +77,14 @@ module _ (u : Update) (z : Zone) where
   pub remove-address-effect : Effect u z (removeAddress u z)
   remove-address-effect =
       option-case (atName u z) (λ e. unchanged NXRRSET nxrr (remove-address-absent u z e))
-      (λ h e. bool-case (heldBy (u .dhcid) (h .owner))
+      (λ h e. cases (heldBy (u .dhcid) (h .owner))
       (λ o. wrote (some (address u false h)) (λ g. form-change (u .name) (address u false h) h z g (good-remove u h (g .hosts (key (u .name)) h e)) e) (remove-address-own u z h e o))
       (λ o. unchanged NXRRSET nxrr (remove-address-other u z h e o)))
 
   pub remove-name-effect : Effect u z (removeName u z)
   remove-name-effect =
       option-case (atName u z) (λ e. unchanged NXRRSET nxrr (remove-name-absent u z e))
-      (λ h e. bool-case (heldBy (u .dhcid) (h .owner) && empty h)
+      (λ h e. cases (heldBy (u .dhcid) (h .owner) && empty h)
       (λ o. wrote none (λ g. form-delete (u .name) h z g e) (remove-name-gone u z h e o))
       (λ o. unchanged NXRRSET nxrr (remove-name-kept u z h e o)))
 
@@ -99,7 +100,7 @@ module _ (u : Update) (z : Zone) where
   pub A-after : requestA u z .answer ≡ success → (atName u z ≡ none) × (requestA u z .zone .at (key (u .name)) ≡ some (newHost u))
   A-after t =
       option-case (atName u z)
-      (λ e. bool-case (ltb (z .size) 64)
+      (λ e. cases (ltb (z .size) 64)
       (λ r. (e, ap (at-of (key (u .name))) (A-new u z e (ltb-true (z .size) 64 r)) ∙ put-at (u .name) (some (newHost u)) z))
       (λ r. absurd (full (ap answer-of (sym (A-full u z e (ltb-false (z .size) 64 r))) ∙ t))))
       (λ h e. absurd (yx (ap answer-of (sym (A-there u z h e)) ∙ t)))
@@ -108,8 +109,8 @@ module _ (u : Update) (z : Zone) where
       → (h : Host) × (atName u z ≡ some h) × (heldBy (u .dhcid) (h .owner) ≡ true) × (requestB p u z .zone .at (key (u .name)) ≡ some (address u true (left (u .family) p h)))
   B-after p t =
       option-case (atName u z) (λ e. absurd (nx (ap answer-of (sym (B-absent u z p e)) ∙ t)))
-      (λ h e. bool-case (heldBy (u .dhcid) (h .owner))
-      (λ o. bool-case (fits u (left (u .family) p h))
+      (λ h e. cases (heldBy (u .dhcid) (h .owner))
+      (λ o. cases (fits u (left (u .family) p h))
       (λ r. (h, e, o, ap (at-of (key (u .name))) (B-done u z h e p o r) ∙ put-at (u .name) (some (address u true (left (u .family) p h))) z))
       (λ r. absurd (full (ap answer-of (sym (B-full u z h e p o r)) ∙ t))))
       (λ o. absurd (nxrr (ap answer-of (sym (B-other u z h e p o)) ∙ t))))
@@ -118,7 +119,7 @@ module _ (u : Update) (z : Zone) where
       → (h : Host) × (atName u z ≡ some h) × (heldBy (u .dhcid) (h .owner) ≡ true) × (removeAddress u z .zone .at (key (u .name)) ≡ some (address u false h))
   remove-address-after t =
       option-case (atName u z) (λ e. absurd (nxrr (ap answer-of (sym (remove-address-absent u z e)) ∙ t)))
-      (λ h e. bool-case (heldBy (u .dhcid) (h .owner))
+      (λ h e. cases (heldBy (u .dhcid) (h .owner))
       (λ o. (h, e, o, ap (at-of (key (u .name))) (remove-address-own u z h e o) ∙ put-at (u .name) (some (address u false h)) z))
       (λ o. absurd (nxrr (ap answer-of (sym (remove-address-other u z h e o)) ∙ t))))
 
@@ -126,7 +127,7 @@ module _ (u : Update) (z : Zone) where
       → (h : Host) × (atName u z ≡ some h) × ((heldBy (u .dhcid) (h .owner) && empty h) ≡ true) × (removeName u z .zone .at (key (u .name)) ≡ none)
   remove-name-after t =
       option-case (atName u z) (λ e. absurd (nxrr (ap answer-of (sym (remove-name-absent u z e)) ∙ t)))
-      (λ h e. bool-case (heldBy (u .dhcid) (h .owner) && empty h)
+      (λ h e. cases (heldBy (u .dhcid) (h .owner) && empty h)
       (λ o. (h, e, o, ap (at-of (key (u .name))) (remove-name-gone u z h e o) ∙ put-at (u .name) none z))
       (λ o. absurd (nxrr (ap answer-of (sym (remove-name-kept u z h e o)) ∙ t))))
 
@@ -134,7 +135,7 @@ module _ (u : Update) (z : Zone) where
   pub A-no-room : requestA u z .answer ≡ noRoom → (atName u z ≡ none) × (64 ≤ z .size)
   A-no-room t =
       option-case (atName u z)
-      (λ e. bool-case (ltb (z .size) 64)
+      (λ e. cases (ltb (z .size) 64)
       (λ r. absurd (full (sym (ap answer-of (sym (A-new u z e (ltb-true (z .size) 64 r))) ∙ t))))
       (λ r. (e, ltb-false (z .size) 64 r)))
       (λ h e. absurd (apart (ap answer-of (sym (A-there u z h e)) ∙ t)))
@@ -146,8 +147,8 @@ module _ (u : Update) (z : Zone) where
       → (h : Host) × (atName u z ≡ some h) × (heldBy (u .dhcid) (h .owner) ≡ true) × (fits u (left (u .family) p h) ≡ false)
   B-no-room p t =
       option-case (atName u z) (λ e. absurd (apart (ap answer-of (sym (B-absent u z p e)) ∙ t)))
-      (λ h e. bool-case (heldBy (u .dhcid) (h .owner))
-      (λ o. bool-case (fits u (left (u .family) p h))
+      (λ h e. cases (heldBy (u .dhcid) (h .owner))
+      (λ o. cases (fits u (left (u .family) p h))
       (λ r. absurd (full (sym (ap answer-of (sym (B-done u z h e p o r)) ∙ t))))
       (λ r. (h, e, o, r)))
       (λ o. absurd (apart2 (ap answer-of (sym (B-other u z h e p o)) ∙ t))))

@@ -1,6 +1,6 @@
 -- The laws of the zone and its requests: all that a layer above needs of them. Assumes nothing.
 use mathlib.Core.Path.{_≡_, refl, sym, _∙_, ap, subst, fun-ext}
-use mathlib.Core.Bool.{Bool, true, false, cond, _&&_, _||_}
+use mathlib.Core.Bool.{Bool, true, false, cond, _&&_, _||_, true≢false}
 use mathlib.Core.Option.{Option, none, some}
 use Prim.Native.Nat.{ℕ, _+_, _-_, _≤_, _<_}
 use native.Mathlib.Omega.{arith}
@@ -11,7 +11,7 @@ use Rattle.octets.proofs.CompareLaws.{same-self, same-true}
 use Rattle.dname.specs.Name.{key}
 use Rattle.hosts.specs.Count.{Octets, Counts}
 use Rattle.hosts.specs.Addresses.{Family, four, six, Addresses, nothing, one, mark}
-use Rattle.hosts.proofs.CountLaws.{true≢false, same-no, same-dec, counts-eq, counts-nothing, counts-ext, counts-mark}
+use Rattle.hosts.proofs.CountLaws.{same-no, same-dec, counts-eq, counts-nothing, counts-ext, counts-mark}
 use Rattle.hosts.proofs.SetLaws.{set-eq}
 use Rattle.zone.specs.Zone.{Host, Zone, there, GoodHost, Form, isFamily, with, put, Update, Policy, keepOthers, oneOfFamily, onlyThis, success, YXDOMAIN, NXDOMAIN, NXRRSET, noRoom, says, atName, ownFamily, heldBy, empty, address, newHost, requestA, left, fits, writeB, requestB, removeAddress, removeName}
 
