@@ -1,5 +1,5 @@
 /* The box at work: what an address server asks of the library, and what it is told. */
-#include "box.h"
+#include "box/box.h"
 
 #include <stdio.h>
 #include <stdlib.h>
