@@ -248,14 +248,26 @@ typedef struct {
 /*
  * The requests of RFC 4703, each tested and done at once.
  *
+ * zone: the zone as the call before returned it.
+ * name: a full name. dhcid: who asks.
+ * family, address: the address that is added or deleted.
+ * policy: of B alone, what becomes of the name's other addresses.
+ *
+ * Result: refusal 0, the answer, and the zone after the request, which a request that doesn't succeed
+ * has not changed; or a refusal, answer 0, and the very zone that was handed in.
  * Refusals of each, the first that applies: 17 the zone breaks its form (a kind not listed, a name
  * that is not full, two equal names, a count over 4, two equal addresses of a name); 18 a family or
- * policy not listed; 11 a name that is not full. A refused request returns the very zone that it was
- * handed, and answer 0. Any other returns the answer of the rules and a zone of good form with the
- * names, owners and addresses that the rules give; a request that doesn't succeed changes nothing.
+ * policy not listed; 11 a name that is not full.
+ * Promise: the refusal and the answer are those that the rules give, and so are the names, owners and
+ * addresses of the zone, which is of good form again; at which places they stand is left open.
  */
 
-/* The refusal that a request with these would get, 0 for none. Where there is no policy, pass 0. */
+/*
+ * The check alone, for a caller that sends no request. Where there is no policy, pass 0.
+ *
+ * Result: the refusal that a request with these would get, 0 for none.
+ * Promise: the number is the first of the refusals above that applies.
+ */
 uint32_t jespurla_zone_check(jespurla_zone zone, jespurla_name name, uint8_t family, uint8_t policy);
 
 /* A: adds an absent name with the DHCID and the address. YXDOMAIN where the name is there; NO_ROOM
@@ -321,8 +333,11 @@ typedef struct {
 /*
  * A fresh add, or a fresh remove, that has sent nothing yet.
  *
- * Refusals, the first that applies: 18 a family or policy not listed; 11 a name that is not full. A
- * refused call gives a job of zeros, which no step takes.
+ * name, dhcid, family, address, policy: what its requests will have.
+ *
+ * Result: refusal 0 and the job; or a refusal, and a job of zeros, which no step takes.
+ * Refusals, the first that applies: 18 a family or policy not listed; 11 a name that is not full.
+ * Promise: the refusal and every field of the job are those that the rules give.
  */
 jespurla_new_job jespurla_new_add(jespurla_name name, jespurla_dhcid dhcid, uint8_t family,
                                   jespurla_address address, uint8_t policy);
@@ -336,6 +351,10 @@ jespurla_new_job jespurla_new_remove(jespurla_name name, jespurla_dhcid dhcid, u
  * it ends done, in conflict, without room, or, where its sixth request says NXDOMAIN, having given
  * up. A remove sends its two requests. A job that has ended changes nothing.
  *
+ * zone: the zone as the call before returned it, whoever made that call.
+ * job: the job as a new job call or its own last step returned it.
+ *
+ * Result: refusal 0, the zone and the job after the step; or a refusal.
  * Refusals, the first that applies: 17 the zone breaks its form; 18 a stage, family or policy not
  * listed, or a count that the stage can't have; 11 a name that is not full. A refused step returns
  * the very zone and job that it was handed.
