@@ -5,8 +5,8 @@ use Prim.Native.Nat.{ℕ}
 use lib.Dec.{eqb}
 use borrow.Author.Tests.{eq-eqb, ne-eqb}
 use Rattle.zone.specs.Zone.{Answer, success, YXDOMAIN, NXDOMAIN, NXRRSET, noRoom}
-use Rattle.zone.specs.Promise.{numberOf}
-use Rattle.zone.proofs.AnswerLaws.{number-success, number-nxdomain, number-yxdomain, number-nxrrset, number-no-room}
+use Rattle.request.specs.Promise.{numberOf}
+use Rattle.request.proofs.AnswerLaws.{number-success, number-nxdomain, number-yxdomain, number-nxrrset, number-no-room}
 use Rattle.job.specs.declared.job.Job.{Job}
 use Rattle.job.specs.Jobs.{after, passed, afterFirst, afterSecond}
 use Rattle.job.specs.Meaning.{stageNumber, stageCount, atStage}

@@ -14,7 +14,7 @@ use Rattle.zone.specs.Zone as abstract
 use Rattle.zone.specs.Zone.{Answer, success, YXDOMAIN, NXDOMAIN, NXRRSET, noRoom, keepOthers, Policy, requestA, requestB, removeAddress, removeName}
 use Rattle.places.specs.Meaning.{nameOf, isFull}
 use Rattle.zone.specs.Meaning.{listed, policyOf, updateOf}
-use Rattle.zone.proofs.AnswerLaws.{policy-zero}
+use Rattle.zone.proofs.NumberLaws.{policy-zero}
 use Rattle.job.specs.declared.job.Job.{Job}
 use Rattle.job.specs.declared.fresh.NewJob.{NewJob}
 use Rattle.job.specs.Jobs.{add, remove, Arguments, Stage, beforeA, beforeB, beforeFirst, beforeSecond, ended, End, done, conflict, gaveUp, notOurs, gone, kept, among, possible, after, passed, afterFirst, afterSecond, step}

@@ -4,7 +4,7 @@ use places::entry::Address;
 use places::entry::Dhcid;
 use places::name;
 use places::name::Name;
-use zone::request;
+use zone::numbers;
 ghost use mathlib.Core.Path.{_≡_};
 ghost use Rattle.places.specs.Meaning.{nameOf};
 ghost use Rattle.job.specs.Meaning.{blank};
@@ -20,7 +20,7 @@ pub struct NewJob {
 fn refusal(n: Name, family: u8, policy: u8) -> u32
     ensures { λ r. ⌜ r ≡ newRefusal (nameOf n) family policy ⌝ }
 {
-    if !request::is_listed(family, policy) {
+    if !numbers::is_listed(family, policy) {
         return 18;
     }
     if !name::is_full(n) {

@@ -1,6 +1,6 @@
 // The numbers that a job may have.
 use crate::job::Job;
-use zone::request;
+use zone::numbers;
 ghost use mathlib.Core.Path.{_≡_};
 ghost use mathlib.Core.List.{[], _∷_};
 ghost use Prim.Native.Nat.{_≤_, _<_};
@@ -68,12 +68,12 @@ pub fn numbers_listed(job: Job) -> bool
 {
     let stage = job.stage;
     if stage <= 6 {
-        if !request::is_listed(job.family, job.policy) {
+        if !numbers::is_listed(job.family, job.policy) {
             return false;
         }
         return add_can(stage, job.count);
     }
-    if !request::is_listed(job.family, 0) {
+    if !numbers::is_listed(job.family, 0) {
         return false;
     }
     remove_can(stage, job.count)

@@ -10,7 +10,7 @@ use Rattle.zone.specs.Zone.{Host, Zone, Form, put, Update, NXDOMAIN, atName, he
 use Rattle.job.specs.Jobs.{add, remove, Arguments, End, done, conflict, noRoom, notOurs, gone, kept, Stage, beforeA, beforeB, beforeFirst, beforeSecond, ended, firstStage, fresh, after, afterFirst, afterSecond, State, step, Sends, hasEnded, sends}
 use Rattle.serial.specs.Demand.{Verdict, removed, verdict}
 use Rattle.zone.proofs.ZoneLaws.{some≢none, option-case, put-at, A-new, A-full, A-there, B-absent, B-other, B-full, B-done, remove-address-absent, remove-address-other, remove-address-own, remove-name-absent, remove-name-kept, remove-name-gone}
-use Rattle.zone.proofs.RequestLaws.{form-lasts, A-effect, B-effect, remove-address-effect, remove-name-effect}
+use Rattle.request.proofs.RequestLaws.{form-lasts, A-effect, B-effect, remove-address-effect, remove-name-effect}
 
 abbrev pub state : Zone → Stage → State
 state z s = record { zone = z; stage = s }

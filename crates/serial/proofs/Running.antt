@@ -4,7 +4,7 @@ use mathlib.Core.Bool.{true}
 use Rattle.places.specs.declared.survey.Zone.{Zone}
 use Rattle.places.specs.Meaning.{nameOf, isFull, formed}
 use Rattle.zone.specs.Meaning.{zoneOf}
-use Rattle.zone.proofs.PlaceLaws.{form-of}
+use Rattle.request.proofs.PlaceLaws.{form-of}
 use Rattle.job.specs.declared.job.Job.{Job}
 use Rattle.job.specs.Jobs.{Arguments, possible, fresh}
 use Rattle.job.specs.Meaning.{argumentsOf, stageOf, jobOf, atStage, numbersListed, freshAdd, freshRemove}

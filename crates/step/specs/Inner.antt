@@ -3,7 +3,7 @@ use mathlib.Core.Path.{_≡_}
 use mathlib.Core.Bool.{cond}
 use Prim.Native.Nat.{ℕ}
 use lib.Dec.{eqb}
-use Rattle.zone.specs.declared.request.Answered.{Answered}
+use Rattle.request.specs.declared.Answered.{Answered}
 use Rattle.job.specs.declared.job.Job.{Job}
 use Rattle.step.specs.declared.Stepped.{Stepped}
 

@@ -1,9 +1,5 @@
 -- Laws that belong to no one function. Crates above cite the definitions through these.
-pub mod HostLaws
 pub mod ZoneLaws
 pub mod BareLaws
-pub mod PlaceLaws
-pub mod DecideLaws
-pub mod AnswerLaws
-pub mod PromiseLaws
-pub mod RequestLaws
+pub mod PrerequisiteLaws
+pub mod NumberLaws

@@ -2,7 +2,3 @@
 pub mod Zone
 -- What the structs mean, and the numbers of a request.
 pub mod Meaning
--- What each public call promises.
-pub mod Promise
--- For the contracts of inner functions; no public promise cites these.
-pub mod Inner

@@ -1,6 +1,4 @@
-// The requests on a zone by value: each tests and writes at once, on one survey of its places and on
-// the one place found.
-mod decide;
-mod host;
-mod prerequisite;
-pub mod request;
+// The zone: the rules of its requests, what its structs mean, which numbers a request may have, and
+// what it tests at a name before it writes.
+pub mod numbers;
+pub mod prerequisite;

@@ -8,7 +8,7 @@ ghost use Rattle.zone.specs.Zone.{heldBy, empty};
 ghost use Rattle.zone.specs.Meaning.{hostOf};
 
 // Whether the DHCID holds the name that stands there.
-pub(crate) fn is_held(e: Entry, d: Dhcid) -> bool
+pub fn is_held(e: Entry, d: Dhcid) -> bool
     ensures { λ r. ⌜ r ≡ heldBy (d .octets) (hostOf e .owner) ⌝ }
 {
     if e.kind == 1 {
@@ -21,7 +21,7 @@ pub(crate) fn is_held(e: Entry, d: Dhcid) -> bool
 }
 
 // Whether the name that stands there has no address.
-pub(crate) fn is_empty(e: Entry) -> bool
+pub fn is_empty(e: Entry) -> bool
     ensures { λ r. ⌜ r ≡ empty (hostOf e) ⌝ }
 {
     let v4 = e.v4;

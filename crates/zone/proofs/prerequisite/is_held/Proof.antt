@@ -1,5 +1,5 @@
 use mathlib.Core.Path.{sym, _∙_}
-use Rattle.zone.proofs.HostLaws.{held-static, held-other}
+use Rattle.zone.proofs.PrerequisiteLaws.{held-static, held-other}
 use borrow.Author.Needs.{needs}
 use Rattle.zone.proofs.prerequisite.is_held.Statement.{statement}
 use Rattle.zone.proofs.prerequisite.is_held.Tie as tie

@@ -1,0 +1,162 @@
+-- The refusals in their order, and what a call's promise is made of. Assumes nothing.
+use mathlib.Core.Path.{_≡_, refl, sym, _∙_, ap}
+use mathlib.Core.Bool.{Bool, true, false, cond, _&&_, and-false}
+use mathlib.Core.List.{List}
+use Prim.Native.Nat.{ℕ, _≤_, _<_}
+use native.Mathlib.Omega.{arith}
+use lib.Dec.{eqb, ltb}
+use lib.ListN.{length}
+use lib.Seq.{set-out}
+use borrow.Author.Tests.{eq-eqb, ne-eqb, ltb-true, ltb-false}
+use borrow.Table.Steps.{cases}
+use Rattle.hosts.specs.Count.{Octets, distinct}
+use Rattle.places.specs.declared.entry.Entry.{Entry}
+use Rattle.places.specs.declared.survey.Zone.{Zone}
+use Rattle.places.specs.declared.survey.Survey.{Survey}
+use Rattle.request.specs.declared.decide.Change.{Change}
+use Rattle.request.specs.declared.Answered.{Answered}
+use Rattle.zone.specs.Zone as rules
+use Rattle.zone.specs.Zone.{Outcome}
+use Rattle.places.specs.Meaning.{isFull, keys, allInOrder, formed}
+use Rattle.zone.specs.Meaning.{zoneOf, listed}
+use Rattle.request.specs.Promise.{numberOf, refusalOf, Promised}
+use Rattle.places.specs.Survey.{Found}
+use Rattle.request.specs.Inner.{written, settled, changed, Decided, Decides}
+
+-- ---- the refusals, in their order
+
+module _ (z : Zone) (n : Octets) (family policy : ℕ) where
+  pub refusal-form : formed z ≡ false → refusalOf z n family policy ≡ 17
+  unfolding refusalOf
+  refusal-form f = rw f
+
+  pub refusal-number : formed z ≡ true → listed family policy ≡ false → refusalOf z n family policy ≡ 18
+  unfolding refusalOf
+  refusal-number f l = rw (f, l)
+
+  pub refusal-name : formed z ≡ true → listed family policy ≡ true → isFull n ≡ false → refusalOf z n family policy ≡ 11
+  unfolding refusalOf
+  refusal-name f l m = rw (f, l, m)
+
+  pub refusal-none : formed z ≡ true → listed family policy ≡ true → isFull n ≡ true → refusalOf z n family policy ≡ 0
+  unfolding refusalOf
+  refusal-none f l m = rw (f, l, m)
+
+  -- the numbers being listed, the form and the name are left
+  pub refusal-listed : listed family policy ≡ true → refusalOf z n family policy ≡ cond (formed z) (cond (isFull n) 0 11) 17
+  unfolding refusalOf
+  refusal-listed l = rw l
+
+  pub not-17 : (refusalOf z n family policy ≡ 17 → ⊥) → formed z ≡ true
+  not-17 e = cases (formed z) (λ f. f) (λ f. absurd (e (refusal-form f)))
+
+  -- each number exactly when
+  pub record Passed : Type 0 where
+    pub form : formed z ≡ true
+    pub numbers : listed family policy ≡ true
+    pub name : isFull n ≡ true
+
+  pub not-refused : refusalOf z n family policy ≡ 0 → Passed
+  not-refused e =
+      cases (formed z)
+      (λ f. cases (listed family policy)
+      (λ l. cases (isFull n) (λ m. record { form = f; numbers = l; name = m }) (λ m. absurd (wrong 11 (refusal-name f l m) (λ q. omega arith))))
+      (λ l. absurd (wrong 18 (refusal-number f l) (λ q. omega arith))))
+      (λ f. absurd (wrong 17 (refusal-form f) (λ q. omega arith)))
+    where
+      wrong : (m : ℕ) → refusalOf z n family policy ≡ m → ¬ (m ≡ 0) → ⊥
+      wrong m q d = d (sym q ∙ e)
+
+  pub passed : (k : ℕ) → k ≡ refusalOf z n family policy → k ≡ 0 → Passed
+  passed k p q = not-refused (sym p ∙ q)
+
+  -- the check says 17 exactly when the form fails
+  pub says-17 : refusalOf z n family policy ≡ 17 → formed z ≡ false
+  says-17 e =
+      cases (formed z)
+      (λ f. cases (listed family policy)
+      (λ l. cases (isFull n) (λ m. absurd (wrong 0 (refusal-none f l m) (λ q. omega arith))) (λ m. absurd (wrong 11 (refusal-name f l m) (λ q. omega arith))))
+      (λ l. absurd (wrong 18 (refusal-number f l) (λ q. omega arith))))
+      (λ f. f)
+    where
+      wrong : (m : ℕ) → refusalOf z n family policy ≡ m → ¬ (m ≡ 17) → ⊥
+      wrong m q d = d (sym q ∙ e)
+
+-- ---- from a survey
+
+formed-is : (z : Zone) (inorder names : Bool) → length (z .entries) ≡ 64 → inorder ≡ allInOrder (z .entries) → names ≡ distinct (keys (z .entries))
+    → formed z ≡ (inorder && names)
+unfolding formed
+formed-is z inorder names l p q = rw (eq-eqb (length (z .entries)) 64 l, p, q)
+
+module _ (z : Zone) (n : Octets) (family policy : ℕ) (inorder : Bool) (l : length (z .entries) ≡ 64) (p : inorder ≡ allInOrder (z .entries)) where
+  pub refused-order : inorder ≡ false → 17 ≡ refusalOf z n family policy
+  refused-order o = sym (refusal-form z n family policy (formed-is z inorder (distinct (keys (z .entries))) l p refl ∙ rw o))
+
+  module _ (names : Bool) (q : names ≡ distinct (keys (z .entries))) where
+    pub refused-names : names ≡ false → 17 ≡ refusalOf z n family policy
+    refused-names d = sym (refusal-form z n family policy (formed-is z inorder names l p q ∙ rw (d, and-false)))
+
+    module _ (o : inorder ≡ true) (d : names ≡ true) where
+      form : formed z ≡ true
+      form = formed-is z inorder names l p q ∙ rw (o, d)
+
+      pub refused-number : listed family policy ≡ false → 18 ≡ refusalOf z n family policy
+      refused-number t = sym (refusal-number z n family policy form t)
+
+      pub refused-name : listed family policy ≡ true → isFull n ≡ false → 11 ≡ refusalOf z n family policy
+      refused-name t m = sym (refusal-name z n family policy form t m)
+
+      pub refused-nothing : listed family policy ≡ true → isFull n ≡ true → 0 ≡ refusalOf z n family policy
+      refused-nothing t m = sym (refusal-none z n family policy form t m)
+
+-- ---- promises
+
+-- nothing is written where there is no such place
+pub no-place : (z : Zone) (place : ℕ) (e : Entry) → length (z .entries) ≡ 64 → 64 ≤ place → written z place e ≡ z
+no-place z place e l h = ap (λ (es : List Entry). record { entries = es }) (set-out (z .entries) place e (omega arith))
+
+module _ (z : Zone) (n : Octets) (family policy : ℕ) (request : rules.Zone → Outcome) where
+  abbrev refusal : ℕ
+  refusal = refusalOf z n family policy
+
+  pub promise-refused : (k : ℕ) (e : Entry) → length (z .entries) ≡ 64 → k ≡ refusal → ¬ (k ≡ 0)
+      → Promised z refusal (request (zoneOf z)) (settled z (record { refusal = k; answer = 0; place = 64; entry = e }))
+  promise-refused k e l p d =
+      let m : ¬ (refusal ≡ 0) = λ q. d (p ∙ q) in
+      record { refusalIs = p; answerIs = rw (ne-eqb refusal 0 m); kept = λ q. no-place z 64 e l (omega arith); done = λ q. absurd (m q); formedAgain = λ q. absurd (m q) }
+
+  pub promise-done : (s : Survey) (w : Change) (k : ℕ) → k ≡ refusal → k ≡ 0 → Found z n s → Decides request n s w
+      → Promised z refusal (request (zoneOf z)) (settled z (record { refusal = 0; answer = w .answer; place = w .place; entry = w .entry }))
+  promise-done s w k p q v d =
+      let e : refusal ≡ 0 = sym p ∙ q in
+      let g : formed z ≡ true = not-refused z n family policy e .form in
+      let c : Decided z (request (zoneOf z)) w = d .decides z g v in
+      record {
+        refusalIs = sym e;
+        answerIs = c .answerIs ∙ sym (rw (eq-eqb refusal 0 e));
+        kept = λ q. absurd (q e);
+        done = λ q. zone c g (ltb (w .place) 64) refl .0;
+        formedAgain = λ q. zone c g (ltb (w .place) 64) refl .1;
+      }
+    where
+      zone : Decided z (request (zoneOf z)) w → formed z ≡ true → (b : Bool) → ltb (w .place) 64 ≡ b → (zoneOf (changed z w) ≡ request (zoneOf z) .zone) × (formed (changed z w) ≡ true)
+      zone c g true t =
+          let h = ltb-true (w .place) 64 t in
+          (c .writes h .1, c .writes h .0)
+      zone c g false t =
+          let k = ltb-false (w .place) 64 t in
+          let h : ¬ (w .place < 64) = λ q. omega arith in
+          let same : changed z w ≡ z = no-place z (w .place) (w .entry) (v .placesAre) (omega arith) in
+          (ap zoneOf same ∙ c .stays h, ap formed same ∙ g)
+
+  -- a request of a kind is the one that the rules name
+  pub promise-same : (other : rules.Zone → Outcome) (r q : Answered) → other (zoneOf z) ≡ request (zoneOf z) → q ≡ r → Promised z refusal (request (zoneOf z)) r → Promised z refusal (other (zoneOf z)) q
+  promise-same other r q e f p =
+      record {
+        refusalIs = ap (λ (a : Answered). a .refusal) f ∙ p .refusalIs;
+        answerIs = ap (λ (a : Answered). a .answer) f ∙ p .answerIs ∙ ap (λ (o : Outcome). cond (eqb refusal 0) (numberOf (o .answer)) 0) (sym e);
+        kept = λ k. ap (λ (a : Answered). a .zone) f ∙ p .kept k;
+        done = λ k. ap (λ (a : Answered). zoneOf (a .zone)) f ∙ p .done k ∙ ap (λ (o : Outcome). o .zone) (sym e);
+        formedAgain = λ k. ap (λ (a : Answered). formed (a .zone)) f ∙ p .formedAgain k;
+      }

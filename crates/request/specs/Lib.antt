@@ -1,0 +1,4 @@
+-- What each public call promises.
+pub mod Promise
+-- For the contracts of inner functions; no public promise cites these.
+pub mod Inner

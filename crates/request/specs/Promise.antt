@@ -1,0 +1,32 @@
+-- What each public call promises. Document 01, "Refusal numbers" and "Zone, requests and jobs".
+use mathlib.Core.Path.{_≡_}
+use mathlib.Core.Bool.{true, cond}
+use Prim.Native.Nat.{ℕ}
+use lib.Dec.{eqb}
+use Rattle.hosts.specs.Count.{Octets}
+use Rattle.places.specs.declared.survey.Zone.{Zone}
+use Rattle.request.specs.declared.Answered.{Answered}
+use Rattle.zone.specs.Zone.{Answer, success, YXDOMAIN, NXDOMAIN, NXRRSET, noRoom, Outcome}
+use Rattle.places.specs.Meaning.{formed, isFull}
+use Rattle.zone.specs.Meaning.{zoneOf, listed}
+
+-- The refusals in their order: the zone's form, a number that is not listed, a name that is not full. 0 is none.
+unfoldable pub refusalOf : Zone → Octets → ℕ → ℕ → ℕ
+refusalOf z name family policy = cond (formed z) (cond (listed family policy) (cond (isFull name) 0 11) 18) 17
+
+-- The number of an answer: RFC 2136's response code, and 256, above every code of its, for no room.
+unfoldable pub numberOf : Answer → ℕ
+numberOf success = 0
+numberOf NXDOMAIN = 3
+numberOf YXDOMAIN = 6
+numberOf NXRRSET = 8
+numberOf noRoom = 256
+
+-- A request on the zone z, its refusal, and what the rules give where there is none. A refused request hands back the very same zone
+-- and 0 for an answer; any other the rules' answer, and a zone of good form that is the rules', at whichever places its names stand.
+pub record Promised (z : Zone) (refusal : ℕ) (right : Outcome) (r : Answered) : Type 0 where
+  pub refusalIs : r .refusal ≡ refusal
+  pub answerIs : r .answer ≡ cond (eqb refusal 0) (numberOf (right .answer)) 0
+  pub kept : ¬ (refusal ≡ 0) → r .zone ≡ z
+  pub done : refusal ≡ 0 → zoneOf (r .zone) ≡ right .zone
+  pub formedAgain : refusal ≡ 0 → formed (r .zone) ≡ true

@@ -1,0 +1,241 @@
+// The public calls. Each request makes one survey of the zone, refuses on it, or decides on it and
+// writes at most one place.
+mod decide;
+mod host;
+
+use crate::decide::Change;
+use places::entry::Address;
+use places::entry::Dhcid;
+use places::entry::Entry;
+use places::name;
+use places::name::Name;
+use places::survey;
+use places::survey::Survey;
+use places::survey::Zone;
+use zone::numbers;
+ghost use mathlib.Core.Path.{_≡_};
+ghost use mathlib.Core.Bool.{true};
+ghost use Prim.Native.Nat.{_<_};
+ghost use Rattle.zone.specs.Zone.{requestA, requestB, removeAddress, removeName};
+ghost use Rattle.places.specs.Meaning.{nameOf, isFull, inOrder};
+ghost use Rattle.zone.specs.Meaning.{policyOf, updateOf, zoneOf};
+ghost use Rattle.request.specs.Promise.{refusalOf, Promised};
+ghost use Rattle.request.specs.Inner.{requestOf, written as writtenAt, settled, Decides, Refuses};
+
+// What is sent. kind: 1 request A, 2 request B, 3 the first remove request, any other the second.
+// policy: of request B; 0 where there is none.
+pub(crate) struct Request {
+    pub kind: u8,
+    pub family: u8,
+    pub policy: u8,
+    pub name: Name,
+    pub dhcid: Dhcid,
+    pub address: Address,
+}
+
+// What a request comes to: the refusal, 0 where there is none, the answer, and one place to write;
+// none where it says 64.
+pub(crate) struct Effect {
+    pub refusal: u32,
+    pub answer: u32,
+    pub place: usize,
+    pub entry: Entry,
+}
+
+// refusal: the number of document 01's table, 0 where there is none. answer: 0 success, 3 NXDOMAIN,
+// 6 YXDOMAIN, 8 NXRRSET, 256 no room.
+#[repr(C)]
+pub struct Answered {
+    pub refusal: u32,
+    pub answer: u32,
+    pub zone: Zone,
+}
+
+// The refusal, 0 where there is none.
+fn refusal(s: Survey, n: Name, family: u8, policy: u8) -> u32
+    ensures { λ r. ⌜ Refuses (nameOf n) family policy s r ⌝ }
+{
+    if !s.inorder {
+        return 17;
+    }
+    if !s.distinct {
+        return 17;
+    }
+    if !numbers::is_listed(family, policy) {
+        return 18;
+    }
+    if !name::is_full(n) {
+        return 11;
+    }
+    0
+}
+
+// What a request that is not refused comes to.
+fn change_of(s: Survey, q: Request) -> Change
+    requires { ⌜ (isFull (nameOf (q .name)) ≡ true) × (s .found < 64 → inOrder (s .entry) ≡ true) ⌝ }
+    ensures { λ r. ⌜ Decides (requestOf (q .kind) (q .policy) (updateOf (q .name) (q .dhcid) (q .family) (q .address))) (nameOf (q .name)) s r ⌝ }
+{
+    if q.kind == 1 {
+        return decide::add_name(s, q.name, q.dhcid, q.family, q.address);
+    }
+    if q.kind == 2 {
+        return decide::add_address(s, q.name, q.dhcid, q.family, q.address, q.policy);
+    }
+    if q.kind == 3 {
+        return decide::remove_address(s, q.name, q.dhcid, q.family, q.address);
+    }
+    decide::remove_name(s, q.name, q.dhcid, q.family, q.address)
+}
+
+// What a request on a zone comes to, before a place is written.
+fn effect_of(zone: Zone, q: Request) -> Effect
+    ensures { λ r. ⌜ Promised zone (refusalOf zone (nameOf (q .name)) (q .family) (q .policy)) (requestOf (q .kind) (q .policy) (updateOf (q .name) (q .dhcid) (q .family) (q .address)) (zoneOf zone)) (settled zone r) ⌝ }
+{
+    let n = q.name;
+    let s = survey::survey_of(zone, n);
+    let refused = refusal(s, n, q.family, q.policy);
+    if refused != 0 {
+        let e = s.entry;
+        return Effect {
+            refusal: refused,
+            answer: 0,
+            place: 64,
+            entry: e,
+        };
+    }
+    let w = change_of(s, q);
+    let e = w.entry;
+    Effect {
+        refusal: 0,
+        answer: w.answer,
+        place: w.place,
+        entry: e,
+    }
+}
+
+// The zone with one place written, or as it is where there is no such place.
+fn written(zone: Zone, place: usize, entry: Entry) -> Zone
+    ensures { λ r. ⌜ r ≡ writtenAt zone place entry ⌝ }
+{
+    let mut z = zone;
+    if place < 64 {
+        z.entries[place] = entry;
+    }
+    z
+}
+
+// The zone after a request, with its answer.
+fn settle(zone: Zone, w: Effect) -> Answered
+    ensures { λ r. ⌜ r ≡ settled zone w ⌝ }
+{
+    let e = w.entry;
+    let after = written(zone, w.place, e);
+    Answered {
+        refusal: w.refusal,
+        answer: w.answer,
+        zone: after,
+    }
+}
+
+// The check alone, for what sends no request: the refusal that any request with these would get, 0
+// where there is none. Where there is no policy, 0 stands for it.
+#[no_mangle]
+pub extern "C" fn jespurla_zone_check(zone: Zone, name: Name, family: u8, policy: u8) -> u32
+    ensures { λ r. ⌜ r ≡ refusalOf zone (nameOf name) family policy ⌝ }
+{
+    let s = survey::survey_of(zone, name);
+    refusal(s, name, family, policy)
+}
+
+// Request A: adds an absent name with the DHCID and the address.
+#[no_mangle]
+pub extern "C" fn jespurla_request_a(
+    zone: Zone,
+    name: Name,
+    dhcid: Dhcid,
+    family: u8,
+    address: Address,
+) -> Answered
+    ensures { λ r. ⌜ Promised zone (refusalOf zone (nameOf name) family 0) (requestA (updateOf name dhcid family address) (zoneOf zone)) r ⌝ }
+{
+    let q = Request {
+        kind: 1,
+        family: family,
+        policy: 0,
+        name: name,
+        dhcid: dhcid,
+        address: address,
+    };
+    let w = effect_of(zone, q);
+    settle(zone, w)
+}
+
+// Request B: at a name that the DHCID holds, deletes by policy, then adds the address.
+#[no_mangle]
+pub extern "C" fn jespurla_request_b(
+    zone: Zone,
+    name: Name,
+    dhcid: Dhcid,
+    family: u8,
+    address: Address,
+    policy: u8,
+) -> Answered
+    ensures { λ r. ⌜ Promised zone (refusalOf zone (nameOf name) family policy) (requestB (policyOf policy) (updateOf name dhcid family address) (zoneOf zone)) r ⌝ }
+{
+    let q = Request {
+        kind: 2,
+        family: family,
+        policy: policy,
+        name: name,
+        dhcid: dhcid,
+        address: address,
+    };
+    let w = effect_of(zone, q);
+    settle(zone, w)
+}
+
+// The first remove request: at a name that the DHCID holds, deletes the address.
+#[no_mangle]
+pub extern "C" fn jespurla_request_remove_address(
+    zone: Zone,
+    name: Name,
+    dhcid: Dhcid,
+    family: u8,
+    address: Address,
+) -> Answered
+    ensures { λ r. ⌜ Promised zone (refusalOf zone (nameOf name) family 0) (removeAddress (updateOf name dhcid family address) (zoneOf zone)) r ⌝ }
+{
+    let q = Request {
+        kind: 3,
+        family: family,
+        policy: 0,
+        name: name,
+        dhcid: dhcid,
+        address: address,
+    };
+    let w = effect_of(zone, q);
+    settle(zone, w)
+}
+
+// The second remove request: deletes a name that the DHCID holds and that has no address.
+#[no_mangle]
+pub extern "C" fn jespurla_request_remove_name(
+    zone: Zone,
+    name: Name,
+    dhcid: Dhcid,
+    family: u8,
+    address: Address,
+) -> Answered
+    ensures { λ r. ⌜ Promised zone (refusalOf zone (nameOf name) family 0) (removeName (updateOf name dhcid family address) (zoneOf zone)) r ⌝ }
+{
+    let q = Request {
+        kind: 4,
+        family: family,
+        policy: 0,
+        name: name,
+        dhcid: dhcid,
+        address: address,
+    };
+    let w = effect_of(zone, q);
+    settle(zone, w)
+}
