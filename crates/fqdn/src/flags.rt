@@ -2,10 +2,10 @@
 ghost use mathlib.Core.Path.{_≡_};
 ghost use Rattle.fqdn.specs.Flags.{Honoured, flagAnswer};
 
-// Refusal 10 in the table, where no flags octet is answered by that number, and as a result has it:
-// 10 times 65536.
+// Refusal 10 in the table: no answer is a flags octet of that number.
 const R: u8 = 10;
 
+// Refusal 10 as a result has it: 10 times 65536.
 const REFUSED: u32 = 655360;
 
 // The answers, at the place that the lowest three bits of the flags octet and what may be honoured
