@@ -225,3 +225,9 @@ counts-mark {n = n} {p = p} a v c = go v (p a) refl
           );
       exactly = less;
     }
+
+-- where one is all there are, nothing else is
+pub counts-one : {p : Octets → Bool} (a b : Octets) → Counts 1 p → p a ≡ true → ¬ (a ≡ b) → p b ≡ false
+counts-one {p = p} a b c t d =
+    let m : Counts 0 (λ x. cond (sameOctets a x) false (p x)) = subst (λ (v : Bool). Counts (1 - one v) (λ x. cond (sameOctets a x) false (p x))) t (counts-mark a false c) in
+    sym (ap (λ (v : Bool). cond v false (p b)) (same-no a b d)) ∙ counts-none m b

@@ -102,6 +102,9 @@ module _ {A : Type 0} (f : A → Octets) (xs : List A) (n : ℕ) (fits : n ≤ l
     without-end a = rw part-end
 
 -- a count tells whether there is none, and whether there are four
+pub part-count : {A : Type 0} (f : A → Octets) (xs : List A) (count n : ℕ) → length xs ≡ 4 → n ≤ 4 → n ≤ count → (n < 4 → n ≡ count) → n ≡ length (part f xs count)
+part-count f xs count n l h k e = sym (ap length (part-few f xs count n l h k e) ∙ part-length f xs n (omega arith))
+
 pub part-none : {A : Type 0} (f : A → Octets) (xs : List A) (n : ℕ) → length xs ≡ 4 → eqb (length (part f xs n)) 0 ≡ eqb n 0
 part-none f xs zero l = refl
 part-none f [] (suc n) l = absurd (omega arith)

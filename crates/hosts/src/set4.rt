@@ -119,6 +119,13 @@ pub fn without4(s: Set4, a: Addr4) -> Set4
     }
 }
 
+// How many addresses the set has.
+pub fn count4(s: Set4) -> usize
+    ensures { λ r. ⌜ (r ≡ length (list4 s)) × (r ≤ 4) ⌝ }
+{
+    few::few(s.count)
+}
+
 // Whether the set has no address.
 pub fn empty4(s: Set4) -> bool
     ensures { λ r. ⌜ r ≡ eqb (length (list4 s)) 0 ⌝ }

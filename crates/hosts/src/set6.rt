@@ -119,6 +119,13 @@ pub fn without6(s: Set6, a: Addr6) -> Set6
     }
 }
 
+// How many addresses the set has.
+pub fn count6(s: Set6) -> usize
+    ensures { λ r. ⌜ (r ≡ length (list6 s)) × (r ≤ 4) ⌝ }
+{
+    few::few(s.count)
+}
+
 // Whether the set has no address.
 pub fn empty6(s: Set6) -> bool
     ensures { λ r. ⌜ r ≡ eqb (length (list6 s)) 0 ⌝ }

@@ -19,7 +19,8 @@ use borrow.Author.Tests.{eq-eqb, ne-eqb, eqb-true, eqb-false, ltb-true, ltb-fals
 use Rattle.octets.specs.Compare.{sameOctets}
 use Rattle.octets.proofs.CompareLaws.{same-true, same-self}
 use Rattle.lease.specs.Lease.{allZero}
-use Rattle.lease.specs.Lead.{value, leading}
+use Rattle.octets.specs.Word.{value}
+use Rattle.lease.specs.Lead.{leading}
 
 -- ---- zeros
 value-zero : (l : List ℕ) → eqb (value l) 0 ≡ allZero l

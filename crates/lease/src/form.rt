@@ -1,7 +1,7 @@
 // The form that a lease must have in the table, but for the order of the addresses.
 use crate::Lease;
-use crate::lead;
 use clock::Moment;
+use octets::word;
 ghost use mathlib.Core.Path.{_≡_};
 ghost use lib.ListN.{drop};
 ghost use Prim.Native.Nat.{_<_};
@@ -29,10 +29,10 @@ fn is_zero_from(s: &[u8], from: usize) -> bool
 fn is_zero_from_6(s: [u8; 16]) -> bool
     ensures { λ r. ⌜ r ≡ allZero (drop 6 s) ⌝ }
 {
-    if lead::eight(s[8], s[9], s[10], s[11], s[12], s[13], s[14], s[15]) != 0 {
+    if word::eight(s[8], s[9], s[10], s[11], s[12], s[13], s[14], s[15]) != 0 {
         return false;
     }
-    lead::four(s[6], s[7], 0, 0) == 0
+    word::four(s[6], s[7], 0, 0) == 0
 }
 
 // A hardware address has at most 16 octets, with zeros behind them; one of none has type 0.

@@ -2,3 +2,5 @@
 pub mod Compare
 pub mod Number
 pub mod Write
+-- For the contracts of inner functions; no public promise cites these.
+pub mod Word

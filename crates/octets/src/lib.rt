@@ -2,4 +2,5 @@
 // takes all input: a read past the end gives 0, and what does not fit is not written.
 pub mod compare;
 pub mod number;
+pub mod word;
 pub mod write;

@@ -9,7 +9,7 @@ use native.Mathlib.Omega.{arith}
 use lib.Dec.{leb, ltb}
 use lib.ListN.{length, getD, set, take, drop, drop-of-length-le, length-map}
 use lib.Seq.{drop-cons, take-suc-set, take-set-le}
-use borrow.Author.Tests.{ltb-true, lt-ltb, le-ltb}
+use borrow.Author.Tests.{ltb-true, lt-ltb}
 use Rattle.dname.specs.Name.{key, sameName}
 use Rattle.dname.proofs.NameLaws.{same-name-key, key-same-name}
 use Rattle.hosts.specs.Count.{Octets, member, distinct}
@@ -130,9 +130,6 @@ chosen-below found = go (ltb found 64) refl
 
 pub chosen-found : (found : ℕ) → found < 64 → cond (ltb found 64) found 0 ≡ found
 chosen-found found h = rw (lt-ltb found 64 h)
-
-pub chosen-none : (found : ℕ) → 64 ≤ found → cond (ltb found 64) found 0 ≡ 0
-chosen-none found h = rw (le-ltb found 64 h)
 
 pub getD-any : {A : Type 0} (l : List A) (i : ℕ) (d e : A) → i < length l → getD l i d ≡ getD l i e
 getD-any [] i d e h = absurd (omega arith)

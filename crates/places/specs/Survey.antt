@@ -2,30 +2,42 @@
 use mathlib.Core.Path.{_≡_}
 use mathlib.Core.Bool.{Bool, false, cond, not, _&&_, _||_}
 use mathlib.Core.List.{List, [], _∷_}
-use Prim.Native.Nat.{ℕ, zero, suc, _+_, _*_, _/_, _%_, _<_, _≤_}
-use lib.Dec.{eqb}
+use Prim.Native.Nat.{ℕ, zero, suc, _+_, _*_, _-_, _/_, _%_, _^_, _<_}
+use lib.Dec.{eqb, ltb}
 use lib.ListN.{length, getD}
 use Rattle.octets.specs.Number.{numberAt}
+use Rattle.octets.specs.Word.{value}
 use Rattle.dname.specs.Name.{key, sameName}
 use Rattle.hosts.specs.Count.{Octets, distinct}
 use Rattle.places.specs.declared.entry.Entry.{Entry}
 use Rattle.places.specs.declared.survey.Zone.{Zone}
 use Rattle.places.specs.declared.survey.Survey.{Survey}
+use Rattle.places.specs.declared.survey.Visit.{Visit}
+use Rattle.places.specs.declared.entry.Records.{Records}
+use Rattle.places.specs.declared.name.Name.{Name}
 use Rattle.places.specs.Meaning.{nameOf, used, keys, allInOrder}
 
 -- ---- fingerprints: equal names have equal ones
 
--- the sum of some numbers and the sum of its running sums, as one number
-unfoldable pub mix : ℕ → ℕ → ℕ
-mix sum sums = (sums * 1000003 + sum) % 4294967291
+-- a number of 64 bits folded into 32
+unfoldable pub folded : ℕ → ℕ
+folded x = (x % 4294967296 + x / 4294967296 * 40503) % 4294967296
 
--- n words of four octets from a place on, and the word behind them
+-- the eight octets from a place on as one number
+unfoldable pub wordAt : List ℕ → ℕ → ℕ
+wordAt s i = value (getD s i 0 ∷ getD s (i + 1) 0 ∷ getD s (i + 2) 0 ∷ getD s (i + 3) 0 ∷ getD s (i + 4) 0 ∷ getD s (i + 5) 0 ∷ getD s (i + 6) 0 ∷ getD s (i + 7) 0 ∷ [])
+
+abbrev pub wrapped : ℕ → ℕ
+wrapped x = x % 2 ^ 64
+
+-- n words one behind the other from a place on, and the last eight octets: their sum, and the sum of its running sums
 unfoldable pub printFrom : ℕ → ℕ → ℕ → ℕ → List ℕ → ℕ
-printFrom zero i sum sums s = mix (sum + numberAt 4 s i) (sums + (sum + numberAt 4 s i))
-printFrom (suc n) i sum sums s = printFrom n (i + 4) (sum + numberAt 4 s i) (sums + (sum + numberAt 4 s i)) s
+printFrom zero i sum sums s = folded (wrapped (sums + wrapped (sum + wordAt s (length s - 8))))
+printFrom (suc n) i sum sums s = printFrom n (i + 8) (wrapped (sum + wordAt s i)) (wrapped (sums + wrapped (sum + wordAt s i))) s
 
+-- fewer than eight octets are one number
 unfoldable pub printWords : Octets → ℕ
-printWords s = printFrom (length s / 4) 0 0 0 s
+printWords s = cond (ltb (length s) 8) (folded (numberAt 4 s 0 * 4294967296 + numberAt 4 s 4)) (printFrom ((length s - 1) / 8) 0 0 0 s)
 
 abbrev pub printOf : Octets → ℕ
 printOf name = printWords (key name)
@@ -34,11 +46,22 @@ unfoldable pub among : ℕ → List ℕ → Bool
 among x [] = false
 among x (y ∷ l) = eqb y x || among x l
 
+-- which of 1,024 marks a fingerprint has
+unfoldable pub markOf : ℕ → ℕ
+markOf x = x * 2654435769 / 4194304 % 1024
+
 unfoldable pub repeated : List ℕ → Bool
 repeated [] = false
 repeated (x ∷ l) = among x l || repeated l
 
 -- ---- one place
+
+-- a place by its name and what stands there, and what stands there
+abbrev pub placeOf : Name → Records → Entry
+placeOf n r = record { kind = r .kind; name = n; dhcid = r .dhcid; v4 = r .v4; v6 = r .v6 }
+
+abbrev pub recordsOf : Entry → Records
+recordsOf e = record { kind = e .kind; dhcid = e .dhcid; v4 = e .v4; v6 = e .v6 }
 
 unfoldable pub named : Octets → Entry → Bool
 named n e = used e && sameName (nameOf (e .name)) n
@@ -55,9 +78,12 @@ pub record Found (z : Zone) (n : Octets) (s : Survey) : Type 0 where
   pub orderIs : s .inorder ≡ allInOrder (z .entries)
   pub foundIs : s .found ≡ placeFrom (named n) 0 64 (z .entries)
   pub freeIs : s .free ≡ placeFrom (λ (e : Entry). not (used e)) 0 64 (z .entries)
-  pub entryIs : (d : Entry) → s .found < 64 → s .entry ≡ getD (z .entries) (s .found) d
-  pub elseFirst : (d : Entry) → 64 ≤ s .found → s .entry ≡ getD (z .entries) 0 d
 
 pub record Surveyed (z : Zone) (n : Octets) (s : Survey) : Type 0 where
   pub places : Found z n s
   pub distinctIs : s .distinct ≡ distinct (keys (z .entries))
+
+-- with what stands at the place of the name
+pub record Visited (z : Zone) (n : Octets) (v : Visit) : Type 0 where
+  pub surveyed : Surveyed z n (v .survey)
+  pub entryIs : (d : Entry) → v .survey .found < 64 → v .entry ≡ getD (z .entries) (v .survey .found) d

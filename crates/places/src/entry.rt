@@ -34,6 +34,14 @@ pub struct Entry {
     pub v6: Set6,
 }
 
+// What stands at a name: a place but for the name.
+pub struct Records {
+    pub kind: u8,
+    pub dhcid: Dhcid,
+    pub v4: Set4,
+    pub v6: Set6,
+}
+
 // Whether the address sets of a place have their form.
 pub(crate) fn are_sets_sound(v4: Set4, v6: Set6) -> bool
     ensures { λ r. ⌜ r ≡ (sound (v4 .count) (list4 v4) && sound (v6 .count) (list6 v6)) ⌝ }
@@ -46,7 +54,7 @@ pub(crate) fn are_sets_sound(v4: Set4, v6: Set6) -> bool
 
 // Whether a used place is in order: its kind, whether its name is full, and whether its sets have
 // their form.
-pub(crate) fn is_in_order(kind: u8, full: bool, sets: bool) -> bool
+pub fn is_in_order(kind: u8, full: bool, sets: bool) -> bool
     ensures { λ r. ⌜ r ≡ (leb kind 2 && (full && sets)) ⌝ }
 {
     if kind > 2 {

@@ -2,5 +2,5 @@
 // up, so that what follows works on that summary and on one place by value.
 pub mod entry;
 pub mod name;
-mod print;
+pub mod print;
 pub mod survey;

@@ -16,19 +16,26 @@ pub struct Name {
 // The functions that the walk over a zone calls are lent a name's octets beside its length: a name by
 // value would be copied at each call.
 
-// Whether the first octets are a full name.
-pub(crate) fn are_full(o: &[u8], len: u8) -> bool
-    requires { ⌜ length (now o) ≡ 255 ⌝ }
-    ensures { λ r. ⌜ r ≡ isFull (take len (now (o .entry))) ⌝ }
+// Whether the octets are a full name.
+pub fn is_full_in(o: &[u8]) -> bool
+    ensures { λ r. ⌜ r ≡ isFull (now (o .entry)) ⌝ }
 {
-    let n = len as usize;
-    let shape = dname::shape_of(&o[..n]);
+    let shape = dname::shape_of(o);
     match shape {
         Shape::Empty => false,
         Shape::Full => true,
         Shape::Partial => false,
         Shape::Malformed => false,
     }
+}
+
+// Whether the first octets are a full name.
+pub(crate) fn are_full(o: &[u8], len: u8) -> bool
+    requires { ⌜ length (now o) ≡ 255 ⌝ }
+    ensures { λ r. ⌜ r ≡ isFull (take len (now (o .entry))) ⌝ }
+{
+    let n = len as usize;
+    is_full_in(&o[..n])
 }
 
 // Whether it is a full name.

@@ -11,7 +11,7 @@ ghost use Prim.Native.Nat.{_≤_, _<_};
 ghost use Rattle.dname.specs.Name.{key};
 ghost use Rattle.hosts.specs.Count.{distinct, member};
 ghost use Rattle.places.specs.Meaning.{nameOf, keys};
-ghost use Rattle.places.specs.Survey.{Surveyed};
+ghost use Rattle.places.specs.Survey.{Visited};
 
 #[repr(C)]
 pub struct Zone {
@@ -19,23 +19,27 @@ pub struct Zone {
 }
 
 // inorder: every place is in order. distinct: no two names are equal. found: the place of the name
-// asked for, and free: a free place, each 64 where there is none. entry: what stands at the place found,
-// or at the first where none is.
+// asked for, and free: a free place, each 64 where there is none.
 pub struct Survey {
     pub inorder: bool,
     pub distinct: bool,
     pub found: usize,
     pub free: usize,
+}
+
+// A survey, with what stands at the place found; where none is, any place.
+pub struct Visit {
+    pub survey: Survey,
     pub entry: Entry,
 }
 
-fn both(a: bool, b: bool) -> bool
+pub fn both(a: bool, b: bool) -> bool
     ensures { λ r. ⌜ r ≡ (a && b) ⌝ }
 {
     if a { b } else { false }
 }
 
-fn choose(b: bool, x: usize, y: usize) -> usize
+pub fn choose(b: bool, x: usize, y: usize) -> usize
     ensures { λ r. ⌜ r ≡ cond b x y ⌝ }
 {
     if b { x } else { y }
@@ -75,21 +79,10 @@ fn distinct_names(z: Zone) -> bool
     true
 }
 
-// Whether no two names are equal. The places are read again only where two fingerprints are equal.
-fn names_differ(z: Zone, clear: bool) -> bool
-    requires { ⌜ (clear ≡ true → distinct (keys (z .entries)) ≡ true) ⌝ }
-    ensures { λ r. ⌜ r ≡ distinct (keys (z .entries)) ⌝ }
-{
-    if clear {
-        return true;
-    }
-    distinct_names(z)
-}
-
 // The one walk over all places. It tells names apart by their fingerprints: where two of those are
 // equal, the names are compared.
-pub fn survey_of(z: Zone, n: Name) -> Survey
-    ensures { λ r. ⌜ Surveyed z (nameOf n) r ⌝ }
+pub fn survey_of(z: Zone, n: Name) -> Visit
+    ensures { λ r. ⌜ Visited z (nameOf n) r ⌝ }
 {
     let print = name::print(&n.octets, n.len);
     let mut prints = [0u32; 64];
@@ -118,14 +111,17 @@ pub fn survey_of(z: Zone, n: Name) -> Survey
         }
     }
     let repeats = print::repeats(&prints[..used]);
-    let distinct = names_differ(z, !repeats);
+    let mut distinct = true;
+    if repeats {
+        distinct = distinct_names(z);
+    }
     let at = choose(found < 64, found, 0);
     let e = z.entries[at];
-    Survey {
-        inorder: inorder,
-        distinct: distinct,
-        found: found,
-        free: free,
-        entry: e,
-    }
+    let survey = Survey {
+        inorder,
+        distinct,
+        found,
+        free,
+    };
+    Visit { survey, entry: e }
 }

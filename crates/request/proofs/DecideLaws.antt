@@ -1,44 +1,51 @@
 -- From a survey and the place found to what the rules say: each way out of a decision. Assumes nothing.
 use mathlib.Core.Path.{_≡_, refl, sym, _∙_, ap, fun-ext}
-use mathlib.Core.Bool.{Bool, true, false, _&&_}
-use mathlib.Core.Option.{none, some}
+use mathlib.Core.Bool.{Bool, true, false, cond, _&&_}
+use mathlib.Core.Option.{Option, none, some}
 use Prim.Native.Nat.{ℕ, _<_}
 use native.Mathlib.Omega.{arith}
 use borrow.Author.Tests.{ne-eqb}
+use lib.Dec.{eqb}
+use lib.ListN.{getD}
 use Rattle.dname.specs.Name.{key}
 use Rattle.places.specs.declared.name.Name.{Name}
 use Rattle.places.specs.declared.entry.Entry.{Entry}
+use Rattle.places.specs.declared.entry.Records.{Records}
 use Rattle.places.specs.declared.entry.Dhcid.{Dhcid}
 use Rattle.places.specs.declared.entry.Address.{Address}
 use Rattle.places.specs.declared.survey.Zone.{Zone}
 use Rattle.places.specs.declared.survey.Survey.{Survey}
 use Rattle.request.specs.declared.decide.Change.{Change}
 use Rattle.zone.specs.Zone as rules
-use Rattle.zone.specs.Zone.{Host, Update, put, Answer, success, YXDOMAIN, NXDOMAIN, NXRRSET, noRoom, Outcome, says, heldBy, empty, address, newHost, left, fits, requestA, requestB, removeAddress, removeName}
+use Rattle.zone.specs.Zone.{Host, GoodHost, Update, put, Answer, success, YXDOMAIN, NXDOMAIN, NXRRSET, noRoom, Outcome, says, heldBy, empty, address, newHost, left, fits, requestA, requestB, removeAddress, removeName}
 use Rattle.places.specs.Meaning.{nameOf, used, keyOf, inOrder, formed}
-use Rattle.zone.specs.Meaning.{hostOf, zoneOf, policyOf, updateOf}
+use Rattle.zone.specs.Meaning.{hostOf, zoneOf, familyOf, policyOf, updateOf}
 use Rattle.request.specs.Promise.{numberOf}
-use Rattle.places.specs.Survey.{Found}
-use Rattle.request.specs.Inner.{requestOf, changed, Decided, Decides, Kept, Fresh}
+use Rattle.places.specs.Survey.{Found, placeOf}
+use Rattle.request.specs.Inner.{SaysOnly, requestOf, written, Decided, Adds, Seen, Decides, Stands, Makes, Fresh, AlreadyAdded, HasAddress, HasRoom, Joined, Parted}
 use Rattle.places.proofs.SurveyLaws.{blank}
-use Rattle.zone.proofs.ZoneLaws.{A-new, A-full, A-there, B-absent, B-other, B-full, B-done, remove-address-absent, remove-address-other, remove-address-own, remove-name-absent, remove-name-kept, remove-name-gone}
-use Rattle.request.proofs.PlaceLaws.{found-order, found-host, found-changed, found-freed, not-found, free-written, free-room, no-room}
+use Rattle.zone.proofs.ZoneLaws.{some≢none, put-same, put-stood, A-new, A-full, A-there, B-absent, B-other, B-full, B-done, remove-address-absent, remove-address-other, remove-address-own, remove-name-absent, remove-name-kept, remove-name-gone}
+use Rattle.request.proofs.HostLaws.{about}
+use Rattle.request.proofs.StayLaws.{removed-same, removed-other, added-same, added-other}
+use Rattle.request.proofs.PlaceLaws.{good-host, found-order, found-host, found-changed, found-freed, not-found, free-written, free-room, no-room}
 
 -- ---- nothing is written, or one place
 
-module _ (z : Zone) (right : Outcome) (w : Change) where
-  stay : (a : Answer) → right ≡ says a (zoneOf z) → w .answer ≡ numberOf a → w .place ≡ 64 → Decided z right w
+module _ (z : Zone) (right : Outcome) (answer place : ℕ) (e : Entry) where
+  stay : (a : Answer) → right ≡ says a (zoneOf z) → answer ≡ numberOf a → place ≡ 64 → Decided z right answer place e
   stay a r p q = record {
     answerIs = p ∙ ap (λ (o : Outcome). numberOf (o .answer)) (sym r);
     stays = λ h. ap (λ (o : Outcome). o .zone) (sym r);
     writes = λ h. absurd (omega arith);
+    needed = λ h. absurd (omega arith);
   }
 
-  write : (y : rules.Zone) → right ≡ says success y → w .answer ≡ numberOf success → w .place < 64 → (formed (changed z w) ≡ true) × (zoneOf (changed z w) ≡ y) → Decided z right w
-  write y r p q e = record {
+  write : (y : rules.Zone) → right ≡ says success y → answer ≡ numberOf success → place < 64 → (formed (written z place e) ≡ true) × (zoneOf (written z place e) ≡ y) → ¬ (y ≡ zoneOf z) → Decided z right answer place e
+  write y r p q w d = record {
     answerIs = p ∙ ap (λ (o : Outcome). numberOf (o .answer)) (sym r);
     stays = λ h. absurd (h q);
-    writes = λ h. (e .0, e .1 ∙ ap (λ (o : Outcome). o .zone) (sym r));
+    writes = λ h. (w .0, w .1 ∙ ap (λ (o : Outcome). o .zone) (sym r));
+    needed = λ h k. d (ap (λ (o : Outcome). o .zone) (sym r) ∙ k);
   }
 
 -- ---- the requests by number
@@ -47,141 +54,232 @@ module _ (policy : ℕ) (u : Update) (kind : ℕ) where
   pub is-A : kind ≡ 1 → requestA u ≡ requestOf kind policy u
   is-A k = fun-ext (λ z. unfold requestOf in rw k)
 
-  pub is-B : kind ≡ 2 → requestB (policyOf policy) u ≡ requestOf kind policy u
-  is-B k = fun-ext (λ z. unfold requestOf in rw k)
+module _ (policy : ℕ) (u : Name → Update) (kind : ℕ) where
+  abbrev by-number : Name → rules.Zone → Outcome
+  by-number n = requestOf kind policy (u n)
 
-  pub is-first : kind ≡ 3 → removeAddress u ≡ requestOf kind policy u
-  is-first k = fun-ext (λ z. unfold requestOf in rw k)
+  pub is-B : kind ≡ 2 → (λ (n : Name). requestB (policyOf policy) (u n)) ≡ by-number
+  is-B k = fun-ext (λ n. fun-ext (λ z. unfold requestOf in rw k))
 
-  pub is-second : ¬ (kind ≡ 1) → ¬ (kind ≡ 2) → ¬ (kind ≡ 3) → removeName u ≡ requestOf kind policy u
-  is-second a b c = fun-ext (λ z. unfold requestOf in sym (rw (ne-eqb kind 1 a, ne-eqb kind 2 b, ne-eqb kind 3 c)))
+  pub is-first : kind ≡ 3 → (λ (n : Name). removeAddress (u n)) ≡ by-number
+  is-first k = fun-ext (λ n. fun-ext (λ z. unfold requestOf in rw k))
+
+  pub is-second : ¬ (kind ≡ 1) → ¬ (kind ≡ 2) → ¬ (kind ≡ 3) → (λ (n : Name). removeName (u n)) ≡ by-number
+  is-second a b c = fun-ext (λ n. fun-ext (λ z. unfold requestOf in sym (rw (ne-eqb kind 1 a, ne-eqb kind 2 b, ne-eqb kind 3 c))))
 
 -- ---- the four requests
 
-module _ (s : Survey) (n : Name) (d : Dhcid) (family : ℕ) (a : Address) where
-  abbrev u : Update
-  u = updateOf n d family a
+abbrev writes-at : ℕ → Records → Change
+writes-at place r = record { answer = 0; place = place; records = r }
 
-  abbrev says-only : ℕ → Entry → Change
-  says-only answer e = record { answer = answer; place = 64; entry = e }
-
-  abbrev writes-at : ℕ → Entry → Change
-  writes-at place e = record { answer = 0; place = place; entry = e }
+module _ (s : Survey) (d : Dhcid) (family : ℕ) (a : Address) where
+  abbrev u : Name → Update
+  u n = updateOf n d family a
 
   -- what stands at the name, by the survey
-  module _ (z : Zone) (g : formed z ≡ true) (v : Found z (nameOf n) s) where
-    absent : ¬ (s .found < 64) → zoneOf z .at (key (u .name)) ≡ none
+  module _ {z : Zone} (n : Name) (g : formed z ≡ true) (v : Found z (nameOf n) s) where
+    absent : ¬ (s .found < 64) → zoneOf z .at (key (u n .name)) ≡ none
     unfolding updateOf
     absent h = not-found z g (nameOf n) blank (s .found) (v .foundIs) h
 
-    present : s .found < 64 → zoneOf z .at (key (u .name)) ≡ some (hostOf (s .entry))
+    stood : (b : Entry) → s .found < 64 → zoneOf z .at (key (u n .name)) ≡ some (hostOf (getD (z .entries) (s .found) b))
     unfolding updateOf
-    present h = found-host z g (nameOf n) blank (s .found) (v .foundIs) h ∙ ap (λ (e : Entry). some (hostOf e)) (sym (v .entryIs blank h))
+    stood b h = found-host z g (nameOf n) b (s .found) (v .foundIs) h
 
-    pub entry-order : s .found < 64 → inOrder (s .entry) ≡ true
-    entry-order h = ap inOrder (v .entryIs blank h) ∙ found-order z g (nameOf n) blank (s .found) (v .foundIs) h
+  -- ---- request A
 
-    rewritten : s .found < 64 → (f : Entry) (h : Host) → Kept (s .entry) f h
-        → (formed (changed z (writes-at (s .found) f)) ≡ true) × (zoneOf (changed z (writes-at (s .found) f)) ≡ put (u .name) (some h) (zoneOf z))
-    unfolding updateOf
-    rewritten q f h k =
-        let e = v .entryIs blank q in
-        let w = found-changed z g (nameOf n) blank (s .found) (v .foundIs) q f (k .kindIs ∙ ap (λ (x : Entry). x .kind) e) (k .nameIs ∙ ap (λ (x : Entry). x .name) e) (k .orderIs) in
-        (w .0, w .1 ∙ ap (λ (x : Host). put (nameOf n) (some x) (zoneOf z)) (k .hostIs))
+  abbrev asksA : Name → rules.Zone → Outcome
+  asksA n = requestA (u n)
 
-  pub a-there : (e : Entry) → s .found < 64 → Decides (requestA u) (nameOf n) s (says-only 6 e)
+  pub a-there : (r : Change) → s .found < 64 → SaysOnly 6 r → Adds asksA s r
   unfolding numberOf
-  a-there e h = record { decides = λ z g v. stay z _ _ YXDOMAIN (A-there u (zoneOf z) (hostOf (s .entry)) (present z g v h)) refl refl }
+  a-there r h i = record { adds = λ z n g m v. stay z _ _ _ _ YXDOMAIN (A-there (u n) (zoneOf z) _ (stood n g v blank h)) (i .answerIs) (i .placeIs) }
 
-  pub a-full : (e : Entry) → ¬ (s .found < 64) → ¬ (s .free < 64) → Decides (requestA u) (nameOf n) s (says-only 256 e)
+  pub a-full : (r : Change) → ¬ (s .found < 64) → ¬ (s .free < 64) → SaysOnly 256 r → Adds asksA s r
   unfolding numberOf
-  a-full e h k = record {
-    decides = λ z g v. stay z _ _ noRoom (A-full u (zoneOf z) (absent z g v h) (no-room z g (nameOf n) blank (s .free) (v .freeIs) k)) refl refl;
+  a-full r h k i = record {
+    adds = λ z n g m v. stay z _ _ _ _ noRoom (A-full (u n) (zoneOf z) (absent n g v h) (no-room z g (nameOf n) blank (s .free) (v .freeIs) k)) (i .answerIs) (i .placeIs);
   }
 
-  pub a-new : (f : Entry) → ¬ (s .found < 64) → s .free < 64 → Fresh n (newHost u) f → Decides (requestA u) (nameOf n) s (writes-at (s .free) f)
-  unfolding numberOf
-  a-new f h k r = record {
-    decides = λ z g v.
-        let none-there = absent z g v h in
-        let room = free-room z g (u .name) blank (s .free) (v .freeIs) k none-there f used-f key-f (r .orderIs) in
-        let w = free-written z g (u .name) blank (s .free) (v .freeIs) k none-there f used-f key-f (r .orderIs) in
-        write z _ _ (put (u .name) (some (newHost u)) (zoneOf z)) (A-new u (zoneOf z) none-there room) refl k
-        (w .0, w .1 ∙ ap (λ (x : Host). put (u .name) (some x) (zoneOf z)) (r .hostIs));
-  }
+  pub a-new : (r : Records) → ¬ (s .found < 64) → s .free < 64 → Fresh d family a r → Adds asksA s (writes-at (s .free) r)
+  a-new r h k f = record { adds = λ z n g m v. new z n g v (f .stands n m) }
     where
-      used-f : used f ≡ true
-      used-f = unfold used in rw (r .kindIs) refl
+      new : (z : Zone) (n : Name) → formed z ≡ true → Found z (nameOf n) s → Stands n 2 (newHost (u n)) r → Decided z (asksA n (zoneOf z)) 0 (s .free) (placeOf n r)
+      new z n g v t =
+          let used-r : used (placeOf n r) ≡ true = unfold used in rw (t .kindIs) refl in
+          let key-r : keyOf (placeOf n r) ≡ key (u n .name) = unfold updateOf in refl in
+          let room = free-room z g (u n .name) blank (s .free) (v .freeIs) k (absent n g v h) (placeOf n r) used-r key-r (t .orderIs) in
+          let w = free-written z g (u n .name) blank (s .free) (v .freeIs) k (absent n g v h) (placeOf n r) used-r key-r (t .orderIs) in
+          unfold numberOf in
+          write z _ _ _ _ (put (u n .name) (some (newHost (u n))) (zoneOf z)) (A-new (u n) (zoneOf z) (absent n g v h) room) refl k
+          (w .0, w .1 ∙ ap (λ (x : Host). put (u n .name) (some x) (zoneOf z)) (t .hostIs))
+          (λ q. some≢none (put-stood (u n .name) (some (newHost (u n))) (zoneOf z) q ∙ absent n g v h))
 
-      key-f : keyOf f ≡ key (u .name)
-      key-f = unfold updateOf in ap (λ (x : Name). key (nameOf x)) (r .nameIs)
+  -- ---- the others, on what stands at the place found
 
-  -- held by the DHCID or not
-  abbrev Held : Bool → Type 0
-  Held b = heldBy (d .octets) (hostOf (s .entry) .owner) ≡ b
+  module _ (e : Records) where
+    abbrev Held : Bool → Type 0
+    Held b = heldBy (d .octets) (cond (eqb (e .kind) 1) none (some (e .dhcid .octets))) ≡ b
 
-  held : (b : Bool) → Held b → heldBy (u .dhcid) (hostOf (s .entry) .owner) ≡ b
-  held b o = unfold updateOf in o
+    module _ {z : Zone} {n : Name} {b : Entry} (t : Seen z n b s e) where
+      abbrev it : Entry
+      it = getD (z .entries) (s .found) b
 
-  pub b-absent : (p : ℕ) (e : Entry) → ¬ (s .found < 64) → Decides (requestB (policyOf p) u) (nameOf n) s (says-only 3 e)
-  unfolding numberOf
-  b-absent p e h = record { decides = λ z g v. stay z _ _ NXDOMAIN (B-absent u (zoneOf z) (policyOf p) (absent z g v h)) refl refl }
+      abbrev old : Entry
+      old = placeOf (it .name) e
 
-  pub b-other : (p : ℕ) (e : Entry) → s .found < 64 → Held false → Decides (requestB (policyOf p) u) (nameOf n) s (says-only 8 e)
-  unfolding numberOf
-  b-other p e h o = record { decides = λ z g v. stay z _ _ NXRRSET (B-other u (zoneOf z) (hostOf (s .entry)) (present z g v h) (policyOf p) (held false o)) refl refl }
+      held : (x : Bool) → Held x → heldBy (u n .dhcid) (hostOf old .owner) ≡ x
+      held x o = unfold updateOf hostOf in o
 
-  module _ (p : ℕ) (k : Entry) (h : s .found < 64) (o : Held true) (c : Kept (s .entry) k (left (u .family) (policyOf p) (hostOf (s .entry)))) where
-    pub b-full : (e : Entry) → fits u (hostOf k) ≡ false → Decides (requestB (policyOf p) u) (nameOf n) s (says-only 256 e)
+      module _ (h : s .found < 64) where
+        whole : old ≡ it
+        whole = ap (placeOf (it .name)) (t .recordsIs h)
+
+        present : zoneOf z .at (key (u n .name)) ≡ some (hostOf old)
+        present = stood n (t .form) (t .found) b h ∙ ap (λ (x : Entry). some (hostOf x)) (sym whole)
+
+        order : inOrder old ≡ true
+        order = ap inOrder whole ∙ found-order z (t .form) (nameOf n) b (s .found) (t .found .foundIs) h
+
+        good : GoodHost (hostOf old)
+        good = good-host old order
+
+        -- the zone is another exactly when what is written at the name is
+        same : (x : Host) → x ≡ hostOf old → put (u n .name) (some x) (zoneOf z) ≡ zoneOf z
+        same x q = put-same (u n .name) x (zoneOf z) (present ∙ ap some (sym q))
+
+        other : (x : Host) → ¬ (x ≡ hostOf old) → ¬ (put (u n .name) (some x) (zoneOf z) ≡ zoneOf z)
+        other x q k = q (inside (put-stood (u n .name) (some x) (zoneOf z) k ∙ present))
+          where
+            inside : _≡_ {A = Option Host} (some x) (some (hostOf old)) → x ≡ hostOf old
+            inside q = cc
+
+        rewritten : (f : Records) (x : Host) → Stands (it .name) (e .kind) x f
+            → (formed (written z (s .found) (placeOf (it .name) f)) ≡ true) × (zoneOf (written z (s .found) (placeOf (it .name) f)) ≡ put (u n .name) (some x) (zoneOf z))
+        unfolding updateOf
+        rewritten f x k =
+            let w = found-changed z (t .form) (nameOf n) b (s .found) (t .found .foundIs) h (placeOf (it .name) f) (k .kindIs ∙ ap (λ (y : Entry). y .kind) whole) refl (k .orderIs) in
+            (w .0, w .1 ∙ ap (λ (y : Host). put (nameOf n) (some y) (zoneOf z)) (k .hostIs))
+
+    module _ (request : Name → rules.Zone → Outcome) where
+      -- nothing is written
+      only : (r : Change) (x : Answer) → SaysOnly (numberOf x) r → ((z : Zone) (n : Name) (b : Entry) → Seen z n b s e → request n (zoneOf z) ≡ says x (zoneOf z))
+          → Decides request s e r
+      only r x i f =
+          let p : r .place ≡ 64 = i .placeIs in
+          record { placeIs = λ q. absurd (omega arith); decides = λ z n b t. stay z _ _ _ _ x (f z n b t) (i .answerIs) p }
+
+      -- another host is written
+      changes : (f : Records) (x : Name → Name → Host) → s .found < 64
+          → ((z : Zone) (n : Name) (b : Entry) (t : Seen z n b s e) → (request n (zoneOf z) ≡ says success (put (u n .name) (some (x n (it t .name))) (zoneOf z)))
+          × Stands (it t .name) (e .kind) (x n (it t .name)) f × ¬ (x n (it t .name) ≡ hostOf (old t)))
+          → Decides request s e (writes-at (s .found) f)
+      unfolding numberOf
+      changes f x h c = record {
+        placeIs = λ q. refl;
+        decides = λ z n b t. let w = c z n b t in write z _ _ _ _ _ (w .0) refl h (rewritten t h f _ (w .1)) (other t h _ (w .2));
+      }
+
+    -- ---- request B
+
+    module _ (p : ℕ) where
+      abbrev asksB : Name → rules.Zone → Outcome
+      asksB n = requestB (policyOf p) (u n)
+
+      pub b-absent : (r : Change) → ¬ (s .found < 64) → SaysOnly 3 r → Decides asksB s e r
+      unfolding numberOf
+      b-absent r h i = only asksB r NXDOMAIN i (λ z n b t. B-absent (u n) (zoneOf z) (policyOf p) (absent n (t .form) (t .found) h))
+
+      module _ (h : s .found < 64) where
+        pub b-other : (r : Change) → Held false → SaysOnly 8 r → Decides asksB s e r
+        unfolding numberOf
+        b-other r o i = only asksB r NXRRSET i (λ z n b t. B-other (u n) (zoneOf z) _ (present t h) (policyOf p) (held t false o))
+
+        module _ (o : Held true) (x : Bool) (c : AlreadyAdded family p a e x) where
+          pub b-added : (r : Change) → x ≡ true → SaysOnly 0 r → Decides asksB s e r
+          unfolding numberOf
+          b-added r y i = only asksB r success i (λ z n b t.
+              let k = added-same (u n) _ (good t h) (policyOf p) (sym (c .addedIs _ _ (about n d family a)) ∙ y) in
+              B-done (u n) (zoneOf z) _ (present t h) (policyOf p) (held t true o) (k .room) ∙ ap (says success) (same t h _ (k .same)))
+
+          module _ (k : Records) (l : Makes (left (familyOf family) (policyOf p)) e k) (y : Bool) (w : HasRoom family a k y) where
+            left-stands : {z : Zone} {n : Name} {b : Entry} (t : Seen z n b s e) → Stands (it t .name) (e .kind) (left (u n .family) (policyOf p) (hostOf (old t))) k
+            unfolding updateOf
+            left-stands t = l .makes _ (order t h)
+
+            left-room : {z : Zone} {n : Name} {b : Entry} (t : Seen z n b s e) → fits (u n) (left (u n .family) (policyOf p) (hostOf (old t))) ≡ y
+            left-room {n = n} t = ap (fits (u n)) (sym (left-stands t .hostIs)) ∙ sym (w .roomIs _ _ (about n d family a))
+
+            pub b-full : (r : Change) → y ≡ false → SaysOnly 256 r → Decides asksB s e r
+            unfolding numberOf
+            b-full r q i = only asksB r noRoom i (λ z n b t. B-full (u n) (zoneOf z) _ (present t h) (policyOf p) (held t true o) (left-room t ∙ q))
+
+            pub b-done : (f : Records) → x ≡ false → y ≡ true → Joined family a k f → Decides asksB s e (writes-at (s .found) f)
+            b-done f v q j =
+                changes asksB f (λ n m. address (u n) true (left (u n .family) (policyOf p) (hostOf (placeOf m e)))) h (λ z n b t.
+                let m = left-stands t in
+                let r = j .joins _ (u n) (about n d family a) (m .orderIs) (sym (w .roomIs _ _ (about n d family a)) ∙ q) in (
+                  B-done (u n) (zoneOf z) _ (present t h) (policyOf p) (held t true o) (left-room t ∙ q),
+                  record { kindIs = r .kindIs ∙ m .kindIs; orderIs = r .orderIs; hostIs = r .hostIs ∙ ap (address (u n) true) (m .hostIs) },
+                  added-other (u n) _ (good t h) (policyOf p) (sym (c .addedIs _ _ (about n d family a)) ∙ v),
+                ))
+
+    -- ---- the first remove request
+
+    abbrev asksFirst : Name → rules.Zone → Outcome
+    asksFirst n = removeAddress (u n)
+
+    pub remove-absent : (r : Change) → ¬ (s .found < 64) → SaysOnly 8 r → Decides asksFirst s e r
     unfolding numberOf
-    b-full e r = record {
-      decides = λ z g v. stay z _ _ noRoom (B-full u (zoneOf z) (hostOf (s .entry)) (present z g v h) (policyOf p) (held true o) (ap (fits u) (sym (c .hostIs)) ∙ r)) refl refl;
-    }
+    remove-absent r h i = only asksFirst r NXRRSET i (λ z n b t. remove-address-absent (u n) (zoneOf z) (absent n (t .form) (t .found) h))
 
-    pub b-done : (f : Entry) → fits u (hostOf k) ≡ true → Kept k f (address u true (hostOf k)) → Decides (requestB (policyOf p) u) (nameOf n) s (writes-at (s .found) f)
+    module _ (h : s .found < 64) where
+      pub remove-other : (r : Change) → Held false → SaysOnly 8 r → Decides asksFirst s e r
+      unfolding numberOf
+      remove-other r o i = only asksFirst r NXRRSET i (λ z n b t. remove-address-other (u n) (zoneOf z) _ (present t h) (held t false o))
+
+      module _ (o : Held true) (x : Bool) (c : HasAddress family a e x) where
+        pub remove-none : (r : Change) → x ≡ false → SaysOnly 0 r → Decides asksFirst s e r
+        unfolding numberOf
+        remove-none r y i = only asksFirst r success i (λ z n b t.
+            remove-address-own (u n) (zoneOf z) _ (present t h) (held t true o)
+            ∙ ap (says success) (same t h _ (removed-same (u n) _ (good t h) (sym (c .hasIs _ _ (about n d family a)) ∙ y))))
+
+        pub remove-own : (f : Records) → x ≡ true → Parted family a e f → Decides asksFirst s e (writes-at (s .found) f)
+        remove-own f y k =
+            changes asksFirst f (λ n m. address (u n) false (hostOf (placeOf m e))) h (λ z n b t. (
+              remove-address-own (u n) (zoneOf z) _ (present t h) (held t true o),
+              k .parts (u n) (about n d family a) .makes _ (order t h),
+              removed-other (u n) _ (good t h) (sym (c .hasIs _ _ (about n d family a)) ∙ y),
+            ))
+
+    -- ---- the second
+
+    abbrev asksSecond : Name → rules.Zone → Outcome
+    asksSecond n = removeName (u n)
+
+    pub name-absent : (r : Change) → ¬ (s .found < 64) → SaysOnly 8 r → Decides asksSecond s e r
     unfolding numberOf
-    b-done f r j = record {
-      decides = λ z g v.
-          write z _ _ (put (u .name) (some (address u true (left (u .family) (policyOf p) (hostOf (s .entry))))) (zoneOf z))
-          (B-done u (zoneOf z) (hostOf (s .entry)) (present z g v h) (policyOf p) (held true o) (ap (fits u) (sym (c .hostIs)) ∙ r)) refl h
-          (rewritten z g v h f (address u true (left (u .family) (policyOf p) (hostOf (s .entry)))) (record {
-            kindIs = j .kindIs ∙ c .kindIs;
-            nameIs = j .nameIs ∙ c .nameIs;
-            orderIs = j .orderIs;
-            hostIs = j .hostIs ∙ ap (address u true) (c .hostIs);
-          }));
-    }
+    name-absent r h i = only asksSecond r NXRRSET i (λ z n b t. remove-name-absent (u n) (zoneOf z) (absent n (t .form) (t .found) h))
 
-  pub remove-absent : (e : Entry) → ¬ (s .found < 64) → Decides (removeAddress u) (nameOf n) s (says-only 8 e)
-  unfolding numberOf
-  remove-absent e h = record { decides = λ z g v. stay z _ _ NXRRSET (remove-address-absent u (zoneOf z) (absent z g v h)) refl refl }
+    -- held by the DHCID and without an address, or not
+    abbrev Bare : Bool → Type 0
+    Bare x = (n : Name) → (heldBy (d .octets) (cond (eqb (e .kind) 1) none (some (e .dhcid .octets))) && empty (hostOf (placeOf n e))) ≡ x
 
-  pub remove-other : (e : Entry) → s .found < 64 → Held false → Decides (removeAddress u) (nameOf n) s (says-only 8 e)
-  unfolding numberOf
-  remove-other e h o = record { decides = λ z g v. stay z _ _ NXRRSET (remove-address-other u (zoneOf z) (hostOf (s .entry)) (present z g v h) (held false o)) refl refl }
+    module _ (h : s .found < 64) where
+      bare : (x : Bool) → Bare x → {z : Zone} {n : Name} {b : Entry} (t : Seen z n b s e) → (heldBy (u n .dhcid) (hostOf (old t) .owner) && empty (hostOf (old t))) ≡ x
+      bare x o t = unfold updateOf hostOf in o (it t .name)
 
-  pub remove-own : (f : Entry) → s .found < 64 → Held true → Kept (s .entry) f (address u false (hostOf (s .entry))) → Decides (removeAddress u) (nameOf n) s (writes-at (s .found) f)
-  unfolding numberOf
-  remove-own f h o k = record {
-    decides = λ z g v.
-        write z _ _ (put (u .name) (some (address u false (hostOf (s .entry)))) (zoneOf z))
-        (remove-address-own u (zoneOf z) (hostOf (s .entry)) (present z g v h) (held true o)) refl h (rewritten z g v h f _ k);
-  }
+      pub name-kept : (r : Change) → Bare false → SaysOnly 8 r → Decides asksSecond s e r
+      unfolding numberOf
+      name-kept r o i = only asksSecond r NXRRSET i (λ z n b t. remove-name-kept (u n) (zoneOf z) _ (present t h) (bare false o t))
 
-  pub name-absent : (e : Entry) → ¬ (s .found < 64) → Decides (removeName u) (nameOf n) s (says-only 8 e)
-  unfolding numberOf
-  name-absent e h = record { decides = λ z g v. stay z _ _ NXRRSET (remove-name-absent u (zoneOf z) (absent z g v h)) refl refl }
-
-  pub name-kept : (e : Entry) → s .found < 64 → (heldBy (d .octets) (hostOf (s .entry) .owner) && empty (hostOf (s .entry))) ≡ false → Decides (removeName u) (nameOf n) s (says-only 8 e)
-  unfolding numberOf
-  name-kept e h o = record { decides = λ z g v. stay z _ _ NXRRSET (remove-name-kept u (zoneOf z) (hostOf (s .entry)) (present z g v h) (unfold updateOf in o)) refl refl }
-
-  pub name-gone : (f : Entry) → s .found < 64 → (heldBy (d .octets) (hostOf (s .entry) .owner) && empty (hostOf (s .entry))) ≡ true → f .kind ≡ 0
-      → Decides (removeName u) (nameOf n) s (writes-at (s .found) f)
-  unfolding numberOf
-  name-gone f h o k = record {
-    decides = λ z g v.
-        write z _ _ (put (u .name) none (zoneOf z))
-        (remove-name-gone u (zoneOf z) (hostOf (s .entry)) (present z g v h) (unfold updateOf in o)) refl h
-        (unfold updateOf in found-freed z g (nameOf n) blank (s .found) (v .foundIs) h f k);
-  }
+      pub name-gone : (f : Records) → Bare true → f .kind ≡ 0 → Decides asksSecond s e (writes-at (s .found) f)
+      unfolding numberOf
+      name-gone f o k = record {
+        placeIs = λ q. refl;
+        decides = λ z n b t.
+            write z _ _ _ _ (put (u n .name) none (zoneOf z)) (remove-name-gone (u n) (zoneOf z) _ (present t h) (bare true o t)) refl h
+            (unfold updateOf in found-freed z (t .form) (nameOf n) blank (s .found) (t .found .foundIs) h (placeOf (it t .name) f) k)
+            (λ q. some≢none (sym (put-stood (u n .name) none (zoneOf z) q ∙ present t h)));
+      }

@@ -3,7 +3,7 @@ use mathlib.Core.Path.{_≡_, refl, sym, _∙_, ap, fun-ext}
 use mathlib.Core.Bool.{Bool, true, false, cond, _||_}
 use mathlib.Core.List.{List, [], _∷_}
 use mathlib.Core.Option.{none, some}
-use Prim.Native.Nat.{ℕ, _≤_}
+use Prim.Native.Nat.{ℕ, _+_, _≤_}
 use native.Mathlib.Omega.{arith}
 use lib.Dec.{eqb, leb, ltb}
 use lib.ListN.{length, getD, take}
@@ -16,13 +16,15 @@ use Rattle.hosts.specs.declared.set6.Set6.{Set6}
 use Rattle.hosts.proofs.CountLaws.{distinct-nil, distinct-without}
 use Rattle.hosts.proofs.SetLaws.{sound-few, sound-once, sound-both, joined-once, joined-mark, without-mark}
 use Rattle.places.specs.declared.entry.Entry.{Entry}
+use Rattle.places.specs.declared.entry.Records.{Records}
 use Rattle.places.specs.declared.entry.Address.{Address}
 use Rattle.places.specs.declared.entry.Dhcid.{Dhcid}
 use Rattle.places.specs.declared.name.Name.{Name}
-use Rattle.zone.specs.Zone.{Host, Update, isFamily, with, address, fits, left, newHost}
+use Rattle.zone.specs.Zone.{Host, Update, ownFamily, isFamily, with, address, fits, left, newHost}
 use Rattle.places.specs.Meaning.{nameOf, isFull, inOrder}
+use Rattle.places.specs.Survey.{recordsOf}
 use Rattle.zone.specs.Meaning.{listOf, hostOf, familyOf, policyOf, addressOf, updateOf}
-use Rattle.request.specs.Inner.{Kept, Fresh, Joined, About, emptied}
+use Rattle.request.specs.Inner.{Stands, Makes, Joined, About, alone, emptied}
 
 -- ---- a place in order, by its parts
 
@@ -77,28 +79,26 @@ host6 e w =
     on six = refl
 
 module _ (e : Entry) (o : inOrder e ≡ true) where
-  pub kept4 : (w : Set4) (s : Addresses) → sound (w .count) (list4 w) ≡ true → setOf (list4 w) ≡ s → Kept e (with4 e w) (with four s (hostOf e))
+  pub kept4 : (w : Set4) (s : Addresses) → sound (w .count) (list4 w) ≡ true → setOf (list4 w) ≡ s → Stands (e .name) (e .kind) (with four s (hostOf e)) (recordsOf (with4 e w))
   kept4 w s t q =
       let p = order-parts e o in
       record {
         kindIs = refl;
-        nameIs = refl;
         orderIs = order-whole (with4 e w) (record { kind = p .kind; full-name = p .full-name; sound4 = t; sound6 = p .sound6 });
         hostIs = host4 e w ∙ ap (λ (x : Addresses). with four x (hostOf e)) q;
       }
 
-  pub kept6 : (w : Set6) (s : Addresses) → sound (w .count) (list6 w) ≡ true → setOf (list6 w) ≡ s → Kept e (with6 e w) (with six s (hostOf e))
+  pub kept6 : (w : Set6) (s : Addresses) → sound (w .count) (list6 w) ≡ true → setOf (list6 w) ≡ s → Stands (e .name) (e .kind) (with six s (hostOf e)) (recordsOf (with6 e w))
   kept6 w s t q =
       let p = order-parts e o in
       record {
         kindIs = refl;
-        nameIs = refl;
         orderIs = order-whole (with6 e w) (record { kind = p .kind; full-name = p .full-name; sound4 = p .sound4; sound6 = t });
         hostIs = host6 e w ∙ ap (λ (x : Addresses). with six x (hostOf e)) q;
       }
 
-pub kept-same : (e : Entry) → inOrder e ≡ true → Kept e e (hostOf e)
-kept-same e o = record { kindIs = refl; nameIs = refl; orderIs = o; hostIs = refl }
+pub kept-same : (e : Entry) → inOrder e ≡ true → Stands (e .name) (e .kind) (hostOf e) (recordsOf e)
+kept-same e o = record { kindIs = refl; orderIs = o; hostIs = refl }
 
 -- ---- no addresses
 
@@ -147,12 +147,40 @@ means4 {n} {a} {u} b e q = record { familyIs = b .familyIs ∙ family-four n e; 
 pub means6 : {n : ℕ} {a : Address} {u : Update} {x : Octets} → About n a u → ¬ (n ≡ 4) → x ≡ a .octets → Means u six x
 means6 {n} {a} {u} b e q = record { familyIs = b .familyIs ∙ family-six n e; addressIs = b .addressIs ∙ ap (λ (f : Family). addressOf f a) (family-six n e) ∙ sym q }
 
+-- ---- how many addresses
+
+pub count4-by : (e : Entry) (family n : ℕ) → family ≡ 4 → n ≡ length (list4 (e .v4)) → n ≡ hostOf e .addresses (familyOf family) .count
+unfolding hostOf
+count4-by e family n k q = q ∙ ap (λ (f : Family). length (listOf e f)) (sym (family-four family k))
+
+pub count6-by : (e : Entry) (family n : ℕ) → ¬ (family ≡ 4) → n ≡ length (list6 (e .v6)) → n ≡ hostOf e .addresses (familyOf family) .count
+unfolding hostOf
+count6-by e family n k q = q ∙ ap (λ (f : Family). length (listOf e f)) (sym (family-six family k))
+
+-- one of them alone, by policy
+module _ (f : Family) (p : ℕ) (h : Host) where
+  pub alone-keep : p ≡ 0 → true ≡ alone (policyOf p) f h
+  unfolding alone policyOf
+  alone-keep e = sym (rw (alone, eq-eqb p 0 e))
+
+  pub alone-family : p ≡ 1 → eqb (h .addresses f .count) 1 ≡ alone (policyOf p) f h
+  unfolding alone policyOf
+  alone-family e = rw (alone, e)
+
+  pub alone-name : ¬ (p ≡ 0) → ¬ (p ≡ 1) → eqb (h .addresses four .count + h .addresses six .count) 1 ≡ alone (policyOf p) f h
+  unfolding alone policyOf
+  alone-name n m = rw (alone, ne-eqb p 0 n, ne-eqb p 1 m)
+
 -- ---- room, an address more, an address less: for both families
 
 module _ (e : Entry) (u : Update) (f : Family) (x : Octets) (m : Means u f x) where
   pub fits-by : fits u (hostOf e) ≡ (member x (listOf e f) || ltb (length (listOf e f)) 4)
   unfolding fits hostOf
   fits-by = rw (m .familyIs, m .addressIs)
+
+  pub has-by : ownFamily u (hostOf e) .has (u .address) ≡ member x (listOf e f)
+  unfolding hostOf
+  has-by = rw (m .familyIs, m .addressIs)
 
   address-by : (v : Bool) → address u v (hostOf e) ≡ with f (mark x v (setOf (listOf e f))) (hostOf e)
   unfolding address hostOf
@@ -168,8 +196,12 @@ module _ (e : Entry) (u : Update) (f : Family) (x : Octets) (m : Means u f x) wh
 
 -- ---- what policies leave
 
-pub kept-to : {e r : Entry} {h g : Host} → Kept e r h → h ≡ g → Kept e r g
-kept-to k q = record { kindIs = k .kindIs; nameIs = k .nameIs; orderIs = k .orderIs; hostIs = k .hostIs ∙ q }
+pub kept-to : {n : Name} {kind : ℕ} {h g : Host} {r : Records} → Stands n kind h r → h ≡ g → Stands n kind g r
+kept-to k q = record { kindIs = k .kindIs; orderIs = k .orderIs; hostIs = k .hostIs ∙ q }
+
+-- another way to say what changes
+pub makes-to : {f g : Host → Host} {e r : Records} → Makes f e r → ((h : Host) → f h ≡ g h) → Makes g e r
+makes-to k q = record { makes = λ n o. kept-to (k .makes n o) (q _) }
 
 module _ (f : Family) (p : ℕ) (h : Host) where
   pub left-all : p ≡ 0 → h ≡ left f (policyOf p) h
@@ -184,20 +216,17 @@ module _ (f : Family) (p : ℕ) (h : Host) where
   unfolding left policyOf
   left-none n m = rw (left, ne-eqb p 0 n, ne-eqb p 1 m)
 
--- an entry with both sets empty
-pub kept-empty : (e r : Entry) → inOrder e ≡ true → r .kind ≡ e .kind → r .name ≡ e .name → r .dhcid ≡ e .dhcid
-    → list4 (r .v4) ≡ [] → r .v4 .count ≡ 0 → list6 (r .v6) ≡ [] → r .v6 .count ≡ 0 → Kept e r (emptied (hostOf e))
-kept-empty e r o k n d p x q y =
+-- both sets empty
+pub kept-empty : (e : Entry) (v4 : Set4) (v6 : Set6) → inOrder e ≡ true → list4 v4 ≡ [] → v4 .count ≡ 0 → list6 v6 ≡ [] → v6 .count ≡ 0
+    → Stands (e .name) (e .kind) (emptied (hostOf e)) (recordsOf (with6 (with4 e v4) v6))
+kept-empty e v4 v6 o p x q y =
     let s = order-parts e o in
+    let r : Entry = with6 (with4 e v4) v6 in
     record {
-      kindIs = k;
-      nameIs = n;
-      orderIs = order-whole r (record { kind = rw k (s .kind); full-name = rw n (s .full-name); sound4 = sound-nothing _ _ x p; sound6 = sound-nothing _ _ y q });
-      hostIs = both-empty r p q ∙ ap emptied (λ i. record { owner = same i; addresses = λ f. nothing });
+      kindIs = refl;
+      orderIs = order-whole r (record { kind = s .kind; full-name = s .full-name; sound4 = sound-nothing _ _ x p; sound6 = sound-nothing _ _ y q });
+      hostIs = both-empty r p q ∙ (unfold hostOf in refl);
     }
-  where
-    same : hostOf r .owner ≡ hostOf e .owner
-    same = unfold hostOf in rw (k, d)
 
 module _ (e : Entry) (o : inOrder e ≡ true) (u : Update) (x : Octets) where
   once4 : distinct (list4 (e .v4)) ≡ true
@@ -207,22 +236,22 @@ module _ (e : Entry) (o : inOrder e ≡ true) (u : Update) (x : Octets) where
   once6 = sound-once _ _ (order-parts e o .sound6)
 
   pub joined4 : (w : Set4) → Means u four x → list4 w ≡ joined x (list4 (e .v4)) → (e .v4 .count ≤ 4 → w .count ≤ 4) → fits u (hostOf e) ≡ true
-      → Kept e (with4 e w) (address u true (hostOf e))
+      → Stands (e .name) (e .kind) (address u true (hostOf e)) (recordsOf (with4 e w))
   joined4 w m q few r =
       kept-to (kept4 e o w (setOf (list4 w)) (sound-both _ _ (few (sound-few _ _ (order-parts e o .sound4))) (ap distinct q ∙ joined-once x _ once4)) refl)
       (join-by e u four x m (list4 w) once4 r q)
 
   pub joined6 : (w : Set6) → Means u six x → list6 w ≡ joined x (list6 (e .v6)) → (e .v6 .count ≤ 4 → w .count ≤ 4) → fits u (hostOf e) ≡ true
-      → Kept e (with6 e w) (address u true (hostOf e))
+      → Stands (e .name) (e .kind) (address u true (hostOf e)) (recordsOf (with6 e w))
   joined6 w m q few r =
       kept-to (kept6 e o w (setOf (list6 w)) (sound-both _ _ (few (sound-few _ _ (order-parts e o .sound6))) (ap distinct q ∙ joined-once x _ once6)) refl)
       (join-by e u six x m (list6 w) once6 r q)
 
-  pub parted4 : (w : Set4) → Means u four x → list4 w ≡ without x (list4 (e .v4)) → w .count ≤ 4 → Kept e (with4 e w) (address u false (hostOf e))
+  pub parted4 : (w : Set4) → Means u four x → list4 w ≡ without x (list4 (e .v4)) → w .count ≤ 4 → Stands (e .name) (e .kind) (address u false (hostOf e)) (recordsOf (with4 e w))
   parted4 w m q few =
       kept-to (kept4 e o w (setOf (list4 w)) (sound-both _ _ few (ap distinct q ∙ distinct-without x _ once4)) refl) (part-by e u four x m (list4 w) once4 q)
 
-  pub parted6 : (w : Set6) → Means u six x → list6 w ≡ without x (list6 (e .v6)) → w .count ≤ 4 → Kept e (with6 e w) (address u false (hostOf e))
+  pub parted6 : (w : Set6) → Means u six x → list6 w ≡ without x (list6 (e .v6)) → w .count ≤ 4 → Stands (e .name) (e .kind) (address u false (hostOf e)) (recordsOf (with6 e w))
   parted6 w m q few =
       kept-to (kept6 e o w (setOf (list6 w)) (sound-both _ _ few (ap distinct q ∙ distinct-without x _ once6)) refl) (part-by e u six x m (list6 w) once6 q)
 
@@ -237,7 +266,7 @@ module _ (n : Name) (d : Dhcid) (v4 : Set4) (v6 : Set6) (p : list4 v4 ≡ []) (x
   abbrev bare : Entry
   bare = record { kind = 2; name = n; dhcid = d; v4 = v4; v6 = v6 }
 
-  pub bare-order : isFull (nameOf n) ≡ true → inOrder bare ≡ true
+  bare-order : isFull (nameOf n) ≡ true → inOrder bare ≡ true
   bare-order f = order-whole bare (record { kind = omega arith; full-name = f; sound4 = sound-nothing _ _ x p; sound6 = sound-nothing _ _ y q })
 
   bare-host : (family : ℕ) (a : Address) → hostOf bare ≡ record { owner = some (updateOf n d family a .dhcid); addresses = λ f. nothing }
@@ -251,8 +280,6 @@ module _ (n : Name) (d : Dhcid) (v4 : Set4) (v6 : Set6) (p : list4 v4 ≡ []) (x
     unfolding fits
     bare-fits = rw (bare-host family a) refl
 
-    pub made : (r : Entry) → Joined family a bare r → Fresh n (newHost u) r
+    pub made : (r : Records) → Joined family a (recordsOf bare) r → isFull (nameOf n) ≡ true → Stands n 2 (newHost u) r
     unfolding newHost
-    made r j =
-        let k = j .joins u (about n d family a) bare-fits in
-        record { kindIs = k .kindIs; nameIs = k .nameIs; orderIs = k .orderIs; hostIs = k .hostIs ∙ ap (address u true) (bare-host family a) }
+    made r j f = kept-to (j .joins n u (about n d family a) (bare-order f) bare-fits) (ap (address u true) (bare-host family a))

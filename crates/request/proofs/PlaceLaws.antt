@@ -77,7 +77,7 @@ taken-few {A} f n l h = let k = go n l in omega arith
     go (suc m) [] = zero-le
     go (suc m) (x ∷ k) = suc-le-suc (go m k)
 
-good-host : (e : Entry) → inOrder e ≡ true → GoodHost (hostOf e)
+pub good-host : (e : Entry) → inOrder e ≡ true → GoodHost (hostOf e)
 unfolding hostOf
 good-host e h = record { atMostFour = few; counted = λ f. counts-list (listOf e f) (once f) }
   where

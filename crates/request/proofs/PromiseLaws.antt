@@ -1,27 +1,31 @@
 -- The refusals in their order, and what a call's promise is made of. Assumes nothing.
-use mathlib.Core.Path.{_≡_, refl, sym, _∙_, ap}
+use mathlib.Core.Path.{_≡_, refl, sym, _∙_, ap, subst}
 use mathlib.Core.Bool.{Bool, true, false, cond, _&&_, and-false}
 use mathlib.Core.List.{List}
 use Prim.Native.Nat.{ℕ, _≤_, _<_}
 use native.Mathlib.Omega.{arith}
 use lib.Dec.{eqb, ltb}
-use lib.ListN.{length}
+use lib.ListN.{length, getD}
 use lib.Seq.{set-out}
 use borrow.Author.Tests.{eq-eqb, ne-eqb, ltb-true, ltb-false}
 use borrow.Table.Steps.{cases}
 use Rattle.hosts.specs.Count.{Octets, distinct}
+use Rattle.places.specs.declared.name.Name.{Name}
 use Rattle.places.specs.declared.entry.Entry.{Entry}
+use Rattle.places.specs.declared.entry.Records.{Records}
 use Rattle.places.specs.declared.survey.Zone.{Zone}
-use Rattle.places.specs.declared.survey.Survey.{Survey}
+use Rattle.places.specs.declared.survey.Visit.{Visit}
 use Rattle.request.specs.declared.decide.Change.{Change}
+use Rattle.request.specs.declared.Effect.{Effect}
 use Rattle.request.specs.declared.Answered.{Answered}
 use Rattle.zone.specs.Zone as rules
 use Rattle.zone.specs.Zone.{Outcome}
-use Rattle.places.specs.Meaning.{isFull, keys, allInOrder, formed}
+use Rattle.places.specs.Meaning.{nameOf, isFull, keys, allInOrder, formed}
 use Rattle.zone.specs.Meaning.{zoneOf, listed}
 use Rattle.request.specs.Promise.{numberOf, refusalOf, Promised}
-use Rattle.places.specs.Survey.{Found}
-use Rattle.request.specs.Inner.{written, settled, changed, Decided, Decides}
+use Rattle.places.specs.Survey.{Visited, placeOf, recordsOf}
+use Rattle.request.specs.Inner.{written, settled, effectAt, Decided, Adds, Decides, Comes}
+use Rattle.request.proofs.PlaceLaws.{formed-places}
 
 -- ---- the refusals, in their order
 
@@ -124,31 +128,33 @@ module _ (z : Zone) (n : Octets) (family policy : ℕ) (request : rules.Zone →
       → Promised z refusal (request (zoneOf z)) (settled z (record { refusal = k; answer = 0; place = 64; entry = e }))
   promise-refused k e l p d =
       let m : ¬ (refusal ≡ 0) = λ q. d (p ∙ q) in
-      record { refusalIs = p; answerIs = rw (ne-eqb refusal 0 m); kept = λ q. no-place z 64 e l (omega arith); done = λ q. absurd (m q); formedAgain = λ q. absurd (m q) }
+      record { refusalIs = p; answerIs = rw (ne-eqb refusal 0 m); kept = λ q. no-place z 64 e l (omega arith); unchanged = λ q. no-place z 64 e l (omega arith); done = λ q. absurd (m q); formedAgain = λ q. absurd (m q) }
 
-  pub promise-done : (s : Survey) (w : Change) (k : ℕ) → k ≡ refusal → k ≡ 0 → Found z n s → Decides request n s w
-      → Promised z refusal (request (zoneOf z)) (settled z (record { refusal = 0; answer = w .answer; place = w .place; entry = w .entry }))
-  promise-done s w k p q v d =
-      let e : refusal ≡ 0 = sym p ∙ q in
-      let g : formed z ≡ true = not-refused z n family policy e .form in
-      let c : Decided z (request (zoneOf z)) w = d .decides z g v in
+  pub promise-done : (k answer place : ℕ) (e : Entry) → k ≡ refusal → k ≡ 0 → Decided z (request (zoneOf z)) answer place e
+      → Promised z refusal (request (zoneOf z)) (record { refusal = 0; answer = answer; zone = written z place e })
+  promise-done k answer place e p q c =
+      let r : refusal ≡ 0 = sym p ∙ q in
+      let g : formed z ≡ true = not-refused z n family policy r .form in
       record {
-        refusalIs = sym e;
-        answerIs = c .answerIs ∙ sym (rw (eq-eqb refusal 0 e));
-        kept = λ q. absurd (q e);
-        done = λ q. zone c g (ltb (w .place) 64) refl .0;
-        formedAgain = λ q. zone c g (ltb (w .place) 64) refl .1;
+        refusalIs = sym r;
+        answerIs = c .answerIs ∙ sym (rw (eq-eqb refusal 0 r));
+        kept = λ q. absurd (q r);
+        unchanged = λ q. same g (λ h. c .needed h q);
+        done = λ q. zone g (ltb place 64) refl .0;
+        formedAgain = λ q. zone g (ltb place 64) refl .1;
       }
     where
-      zone : Decided z (request (zoneOf z)) w → formed z ≡ true → (b : Bool) → ltb (w .place) 64 ≡ b → (zoneOf (changed z w) ≡ request (zoneOf z) .zone) × (formed (changed z w) ≡ true)
-      zone c g true t =
-          let h = ltb-true (w .place) 64 t in
+      same : formed z ≡ true → ¬ (place < 64) → written z place e ≡ z
+      same g h = no-place z place e (formed-places z g) (omega arith)
+
+      zone : formed z ≡ true → (b : Bool) → ltb place 64 ≡ b → (zoneOf (written z place e) ≡ request (zoneOf z) .zone) × (formed (written z place e) ≡ true)
+      zone g true t =
+          let h = ltb-true place 64 t in
           (c .writes h .1, c .writes h .0)
-      zone c g false t =
-          let k = ltb-false (w .place) 64 t in
-          let h : ¬ (w .place < 64) = λ q. omega arith in
-          let same : changed z w ≡ z = no-place z (w .place) (w .entry) (v .placesAre) (omega arith) in
-          (ap zoneOf same ∙ c .stays h, ap formed same ∙ g)
+      zone g false t =
+          let k = ltb-false place 64 t in
+          let h : ¬ (place < 64) = λ q. omega arith in
+          (ap zoneOf (same g h) ∙ c .stays h, ap formed (same g h) ∙ g)
 
   -- a request of a kind is the one that the rules name
   pub promise-same : (other : rules.Zone → Outcome) (r q : Answered) → other (zoneOf z) ≡ request (zoneOf z) → q ≡ r → Promised z refusal (request (zoneOf z)) r → Promised z refusal (other (zoneOf z)) q
@@ -157,6 +163,45 @@ module _ (z : Zone) (n : Octets) (family policy : ℕ) (request : rules.Zone →
         refusalIs = ap (λ (a : Answered). a .refusal) f ∙ p .refusalIs;
         answerIs = ap (λ (a : Answered). a .answer) f ∙ p .answerIs ∙ ap (λ (o : Outcome). cond (eqb refusal 0) (numberOf (o .answer)) 0) (sym e);
         kept = λ k. ap (λ (a : Answered). a .zone) f ∙ p .kept k;
+        unchanged = λ k. ap (λ (a : Answered). a .zone) f ∙ p .unchanged (ap (λ (o : Outcome). o .zone) (sym e) ∙ k);
         done = λ k. ap (λ (a : Answered). zoneOf (a .zone)) f ∙ p .done k ∙ ap (λ (o : Outcome). o .zone) (sym e);
         formedAgain = λ k. ap (λ (a : Answered). formed (a .zone)) f ∙ p .formedAgain k;
       }
+
+-- ---- decisions on what was visited
+
+module _ (n : Name) (v : Visit) where
+  pub comes-adds : (request : Name → rules.Zone → Outcome) (other : rules.Zone → Outcome) → request n ≡ other → (w : Change) (x : Effect) → x ≡ effectAt n w → Adds request (v .survey) w
+      → Comes other (nameOf n) v x
+  comes-adds request other q w x p d =
+      subst (λ (y : Effect). Comes other (nameOf n) v y) (sym p)
+      (subst (λ (f : rules.Zone → Outcome). Comes f (nameOf n) v (effectAt n w)) q
+      (record { refusalIs = refl; comes = λ z g m t. d .adds z n g m (t .surveyed .places) }))
+
+  pub comes-decides : (request : Name → rules.Zone → Outcome) (e : Records) (w : Change) (x : Effect) → e ≡ recordsOf (v .entry) → x ≡ effectAt (v .entry .name) w
+      → Decides request (v .survey) e w → Comes (request n) (nameOf n) v x
+  comes-decides request e w x q p d =
+      subst (λ (y : Effect). Comes (request n) (nameOf n) v y) (sym p) (record { refusalIs = refl; comes = λ z g m t. stays-named z t (d .decides z n (v .entry) (record { form = g; found = t .surveyed .places; recordsIs = λ h. q ∙ ap recordsOf (t .entryIs (v .entry) h) })) })
+    where
+      -- the name that stands at the place written is the one visited
+      name : (z : Zone) → Visited z (nameOf n) v → w .place < 64 → getD (z .entries) (w .place) (v .entry) .name ≡ v .entry .name
+      name z t h =
+          let k = d .placeIs h in
+          ap (λ (i : ℕ). getD (z .entries) i (v .entry) .name) k ∙ ap (λ (y : Entry). y .name) (sym (t .entryIs (v .entry) (omega arith)))
+
+      stays-named : (z : Zone) → Visited z (nameOf n) v → Decided z (request n (zoneOf z)) (w .answer) (w .place) (placeOf (getD (z .entries) (w .place) (v .entry) .name) (w .records))
+          → Decided z (request n (zoneOf z)) (w .answer) (w .place) (placeOf (v .entry .name) (w .records))
+      stays-named z t c = record {
+        answerIs = c .answerIs;
+        stays = c .stays;
+        writes = λ h. subst (λ (m : Name). (formed (written z (w .place) (placeOf m (w .records))) ≡ true) × (zoneOf (written z (w .place) (placeOf m (w .records))) ≡ request n (zoneOf z) .zone)) (name z t h) (c .writes h);
+        needed = c .needed;
+      }
+
+pub promise-visited : (z : Zone) (n : Octets) (family policy : ℕ) (request : rules.Zone → Outcome) (k : ℕ) (v : Visit) (x : Effect) → k ≡ refusalOf z n family policy → k ≡ 0
+    → Visited z n v → Comes request n v x → Promised z (refusalOf z n family policy) (request (zoneOf z)) (settled z x)
+promise-visited z n family policy request k v x p q t d =
+    let o = passed z n family policy k p q in
+    promise-same z n family policy request request _ _ refl
+    (ap (λ (m : ℕ). record { refusal = m; answer = x .answer; zone = written z (x .place) (x .entry) }) (d .refusalIs))
+    (promise-done z n family policy request k (x .answer) (x .place) (x .entry) p q (d .comes z (o .form) (o .name) t))

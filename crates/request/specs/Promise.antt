@@ -24,9 +24,11 @@ numberOf noRoom = 256
 
 -- A request on the zone z, its refusal, and what the rules give where there is none. A refused request hands back the very same zone
 -- and 0 for an answer; any other the rules' answer, and a zone of good form that is the rules', at whichever places its names stand.
+-- Where the rules leave the zone as it is, the very same zone comes back, every octet of it.
 pub record Promised (z : Zone) (refusal : ℕ) (right : Outcome) (r : Answered) : Type 0 where
   pub refusalIs : r .refusal ≡ refusal
   pub answerIs : r .answer ≡ cond (eqb refusal 0) (numberOf (right .answer)) 0
   pub kept : ¬ (refusal ≡ 0) → r .zone ≡ z
+  pub unchanged : right .zone ≡ zoneOf z → r .zone ≡ z
   pub done : refusal ≡ 0 → zoneOf (r .zone) ≡ right .zone
   pub formedAgain : refusal ≡ 0 → formed (r .zone) ≡ true

@@ -1,18 +1,15 @@
-// What a request comes to, decided on the survey of a zone and the one place found.
+// What a request comes to, decided on the survey of a zone and on what stands at the place found. No
+// name goes in: the caller writes a new one, and the one that stands at a place stays.
 use crate::host;
 use places::entry::Address;
 use places::entry::Dhcid;
-use places::entry::Entry;
-use places::name::Name;
+use places::entry::Records;
 use places::survey::Survey;
 use zone::prerequisite;
-ghost use mathlib.Core.Path.{_≡_};
-ghost use mathlib.Core.Bool.{true};
-ghost use Prim.Native.Nat.{_<_};
+ghost use Prim.Native.Nat.{ℕ};
 ghost use Rattle.zone.specs.Zone.{requestA, requestB, removeAddress, removeName};
-ghost use Rattle.places.specs.Meaning.{nameOf, isFull, inOrder};
 ghost use Rattle.zone.specs.Meaning.{policyOf, updateOf};
-ghost use Rattle.request.specs.Inner.{Decides};
+ghost use Rattle.request.specs.Inner.{SaysOnly, Adds, Decides};
 
 // The numbers of the answers: RFC 2136's response codes, and one of our own.
 const SUCCESS: u32 = 0;
@@ -25,143 +22,113 @@ const NXRRSET: u32 = 8;
 
 const NO_ROOM: u32 = 256;
 
-// place: where the entry is to be written, 64 where nothing is.
+// place: where the records are to be written, 64 where nothing changes.
 pub(crate) struct Change {
     pub answer: u32,
     pub place: usize,
-    pub entry: Entry,
+    pub records: Records,
+}
+
+// An answer where nothing changes.
+fn no_change(answer: u32, e: Records) -> Change
+    ensures { λ r. ⌜ SaysOnly answer r ⌝ }
+{
+    Change {
+        answer: answer,
+        place: 64,
+        records: e,
+    }
 }
 
 // Request A: adds an absent name.
-pub(crate) fn add_name(s: Survey, n: Name, d: Dhcid, family: u8, a: Address) -> Change
-    requires { ⌜ isFull (nameOf n) ≡ true ⌝ }
-    ensures { λ r. ⌜ Decides (requestA (updateOf n d family a)) (nameOf n) s r ⌝ }
+pub(crate) fn add_name(s: Survey, d: Dhcid, family: u8, a: Address) -> Change
+    ensures { λ r. ⌜ Adds (λ n. requestA (updateOf n d family a)) s r ⌝ }
 {
-    let e = s.entry;
+    let f = host::fresh(d, family, a);
     if s.found < 64 {
-        return Change {
-            answer: YXDOMAIN,
-            place: 64,
-            entry: e,
-        };
+        return no_change(YXDOMAIN, f);
     }
     if s.free >= 64 {
-        return Change {
-            answer: NO_ROOM,
-            place: 64,
-            entry: e,
-        };
+        return no_change(NO_ROOM, f);
     }
-    let f = host::fresh(n, d, family, a);
     Change {
         answer: SUCCESS,
         place: s.free,
-        entry: f,
+        records: f,
     }
 }
 
 // Request B: deletes by policy at a name that the DHCID holds, and adds the address.
 pub(crate) fn add_address(
     s: Survey,
-    n: Name,
+    e: Records,
     d: Dhcid,
     family: u8,
     a: Address,
     policy: u8,
 ) -> Change
-    requires { ⌜ (s .found < 64 → inOrder (s .entry) ≡ true) ⌝ }
-    ensures { λ r. ⌜ Decides (requestB (policyOf policy) (updateOf n d family a)) (nameOf n) s r ⌝ }
+    ensures { λ r. ⌜ Decides (λ n. requestB (policyOf policy) (updateOf n d family a)) s e r ⌝ }
 {
-    let e = s.entry;
     if s.found >= 64 {
-        return Change {
-            answer: NXDOMAIN,
-            place: 64,
-            entry: e,
-        };
+        return no_change(NXDOMAIN, e);
     }
-    if !prerequisite::is_held(e, d) {
-        return Change {
-            answer: NXRRSET,
-            place: 64,
-            entry: e,
-        };
+    if !prerequisite::is_held(e.kind, &e.dhcid.octets, &d.octets) {
+        return no_change(NXRRSET, e);
+    }
+    if host::already_added(e, family, a, policy) {
+        return no_change(SUCCESS, e);
     }
     let l = host::leave(e, family, policy);
     if !host::has_room(l, family, a) {
-        return Change {
-            answer: NO_ROOM,
-            place: 64,
-            entry: e,
-        };
+        return no_change(NO_ROOM, e);
     }
     let f = host::join(l, family, a);
     Change {
         answer: SUCCESS,
         place: s.found,
-        entry: f,
+        records: f,
     }
 }
 
 // The first remove request: deletes the address at a name that the DHCID holds.
-pub(crate) fn remove_address(s: Survey, n: Name, d: Dhcid, family: u8, a: Address) -> Change
-    requires { ⌜ (s .found < 64 → inOrder (s .entry) ≡ true) ⌝ }
-    ensures { λ r. ⌜ Decides (removeAddress (updateOf n d family a)) (nameOf n) s r ⌝ }
+pub(crate) fn remove_address(s: Survey, e: Records, d: Dhcid, family: u8, a: Address) -> Change
+    ensures { λ r. ⌜ Decides (λ n. removeAddress (updateOf n d family a)) s e r ⌝ }
 {
-    let e = s.entry;
     if s.found >= 64 {
-        return Change {
-            answer: NXRRSET,
-            place: 64,
-            entry: e,
-        };
+        return no_change(NXRRSET, e);
     }
-    if !prerequisite::is_held(e, d) {
-        return Change {
-            answer: NXRRSET,
-            place: 64,
-            entry: e,
-        };
+    if !prerequisite::is_held(e.kind, &e.dhcid.octets, &d.octets) {
+        return no_change(NXRRSET, e);
+    }
+    if !host::has_address(e, family, a) {
+        return no_change(SUCCESS, e);
     }
     let f = host::part(e, family, a);
     Change {
         answer: SUCCESS,
         place: s.found,
-        entry: f,
+        records: f,
     }
 }
 
 // The second remove request: deletes a name that the DHCID holds and that has no address.
-pub(crate) fn remove_name(s: Survey, n: Name, d: Dhcid, family: u8, a: Address) -> Change
-    ensures { λ r. ⌜ Decides (removeName (updateOf n d family a)) (nameOf n) s r ⌝ }
+pub(crate) fn remove_name(s: Survey, e: Records, d: Dhcid) -> Change
+    ensures { λ r. ⌜ ((family : ℕ) (a : Address) → Decides (λ n. removeName (updateOf n d family a)) s e r) ⌝ }
 {
-    let e = s.entry;
     if s.found >= 64 {
-        return Change {
-            answer: NXRRSET,
-            place: 64,
-            entry: e,
-        };
+        return no_change(NXRRSET, e);
     }
-    if !prerequisite::is_held(e, d) {
-        return Change {
-            answer: NXRRSET,
-            place: 64,
-            entry: e,
-        };
+    if !prerequisite::is_held(e.kind, &e.dhcid.octets, &d.octets) {
+        return no_change(NXRRSET, e);
     }
     if !prerequisite::is_empty(e) {
-        return Change {
-            answer: NXRRSET,
-            place: 64,
-            entry: e,
-        };
+        return no_change(NXRRSET, e);
     }
     let mut f = e;
     f.kind = 0;
     Change {
         answer: SUCCESS,
         place: s.found,
-        entry: f,
+        records: f,
     }
 }

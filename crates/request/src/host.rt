@@ -1,20 +1,19 @@
-// What the requests write at one name.
+// What the requests write at one name: what stands there, without the name.
 use hosts::set4;
 use hosts::set4::Addr4;
 use hosts::set6;
 use hosts::set6::Addr6;
 use places::entry::Address;
 use places::entry::Dhcid;
-use places::entry::Entry;
-use places::name::Name;
+use places::entry::Records;
 ghost use mathlib.Core.Path.{_≡_};
-ghost use mathlib.Core.Bool.{true};
+ghost use Prim.Native.Nat.{_≤_};
 ghost use lib.ListN.{take};
 ghost use Rattle.hosts.specs.Addresses.{nothing};
-ghost use Rattle.zone.specs.Zone.{with, left, newHost};
-ghost use Rattle.places.specs.Meaning.{nameOf, isFull, inOrder};
-ghost use Rattle.zone.specs.Meaning.{hostOf, familyOf, policyOf, updateOf};
-ghost use Rattle.request.specs.Inner.{Kept, Fresh, HasRoom, Joined, Parted, emptied};
+ghost use Rattle.places.specs.declared.name.Name.{Name};
+ghost use Rattle.zone.specs.Zone.{with, left};
+ghost use Rattle.zone.specs.Meaning.{familyOf, policyOf};
+ghost use Rattle.request.specs.Inner.{hostAt, Makes, Fresh, HasRoom, HasAddress, AlreadyAdded, Joined, Parted, alone, emptied};
 
 // The address as one of family 4, and as one of family 6.
 fn addr4(a: Address) -> Addr4
@@ -33,10 +32,9 @@ fn addr6(a: Address) -> Addr6
     Addr6 { octets: o }
 }
 
-// The place without addresses of one family.
-fn clear_family(e: Entry, family: u8) -> Entry
-    requires { ⌜ inOrder e ≡ true ⌝ }
-    ensures { λ r. ⌜ Kept e r (with (familyOf family) nothing (hostOf e)) ⌝ }
+// Without addresses of one family.
+fn clear_family(e: Records, family: u8) -> Records
+    ensures { λ r. ⌜ Makes (with (familyOf family) nothing) e r ⌝ }
 {
     let mut f = e;
     if family == 4 {
@@ -49,10 +47,9 @@ fn clear_family(e: Entry, family: u8) -> Entry
     f
 }
 
-// The place without addresses.
-fn clear_all(e: Entry) -> Entry
-    requires { ⌜ inOrder e ≡ true ⌝ }
-    ensures { λ r. ⌜ Kept e r (emptied (hostOf e)) ⌝ }
+// Without addresses.
+fn clear_all(e: Records) -> Records
+    ensures { λ r. ⌜ Makes emptied e r ⌝ }
 {
     let mut f = e;
     let none4 = set4::none4();
@@ -62,10 +59,9 @@ fn clear_all(e: Entry) -> Entry
     f
 }
 
-// The place as the deletes by policy leave it.
-pub(crate) fn leave(e: Entry, family: u8, policy: u8) -> Entry
-    requires { ⌜ inOrder e ≡ true ⌝ }
-    ensures { λ r. ⌜ Kept e r (left (familyOf family) (policyOf policy) (hostOf e)) ⌝ }
+// As the deletes by policy leave it.
+pub(crate) fn leave(e: Records, family: u8, policy: u8) -> Records
+    ensures { λ r. ⌜ Makes (left (familyOf family) (policyOf policy)) e r ⌝ }
 {
     if policy == 0 {
         return e;
@@ -77,7 +73,7 @@ pub(crate) fn leave(e: Entry, family: u8, policy: u8) -> Entry
 }
 
 // Whether the address is there, or its family has room for it.
-pub(crate) fn has_room(e: Entry, family: u8, a: Address) -> bool
+pub(crate) fn has_room(e: Records, family: u8, a: Address) -> bool
     ensures { λ r. ⌜ HasRoom family a e r ⌝ }
 {
     if family == 4 {
@@ -90,9 +86,58 @@ pub(crate) fn has_room(e: Entry, family: u8, a: Address) -> bool
     set6::fits6(v6, x)
 }
 
-// The place with the address, if there is room for it.
-pub(crate) fn join(e: Entry, family: u8, a: Address) -> Entry
-    requires { ⌜ inOrder e ≡ true ⌝ }
+// Whether the address is there.
+pub(crate) fn has_address(e: Records, family: u8, a: Address) -> bool
+    ensures { λ r. ⌜ HasAddress family a e r ⌝ }
+{
+    if family == 4 {
+        let v4 = e.v4;
+        let x = addr4(a);
+        return set4::has4(v4, x);
+    }
+    let v6 = e.v6;
+    let x = addr6(a);
+    set6::has6(v6, x)
+}
+
+// How many addresses of one family there are.
+fn count_of(e: Records, family: u8) -> usize
+    ensures { λ r. ⌜ ((n : Name) → r ≡ hostAt n e .addresses (familyOf family) .count) × (r ≤ 4) ⌝ }
+{
+    if family == 4 {
+        let v4 = e.v4;
+        return set4::count4(v4);
+    }
+    let v6 = e.v6;
+    set6::count6(v6)
+}
+
+// Whether there are as many addresses as an add by the policy leaves: any number under policy 0, one of
+// the family under 1, one in all under 2.
+fn is_alone(e: Records, family: u8, policy: u8) -> bool
+    ensures { λ r. ⌜ ((n : Name) → r ≡ alone (policyOf policy) (familyOf family) (hostAt n e)) ⌝ }
+{
+    if policy == 0 {
+        return true;
+    }
+    if policy > 1 {
+        return count_of(e, 4) + count_of(e, 6) == 1;
+    }
+    count_of(e, family) == 1
+}
+
+// Whether the addresses are already as an add by this policy leaves them.
+pub(crate) fn already_added(e: Records, family: u8, a: Address, policy: u8) -> bool
+    ensures { λ r. ⌜ AlreadyAdded family policy a e r ⌝ }
+{
+    if !is_alone(e, family, policy) {
+        return false;
+    }
+    has_address(e, family, a)
+}
+
+// With the address, if there is room for it.
+pub(crate) fn join(e: Records, family: u8, a: Address) -> Records
     ensures { λ r. ⌜ Joined family a e r ⌝ }
 {
     let mut f = e;
@@ -110,9 +155,8 @@ pub(crate) fn join(e: Entry, family: u8, a: Address) -> Entry
     f
 }
 
-// The place without the address.
-pub(crate) fn part(e: Entry, family: u8, a: Address) -> Entry
-    requires { ⌜ inOrder e ≡ true ⌝ }
+// Without the address.
+pub(crate) fn part(e: Records, family: u8, a: Address) -> Records
     ensures { λ r. ⌜ Parted family a e r ⌝ }
 {
     let mut f = e;
@@ -130,16 +174,14 @@ pub(crate) fn part(e: Entry, family: u8, a: Address) -> Entry
     f
 }
 
-// A place that holds the name, with the DHCID and the one address.
-pub(crate) fn fresh(n: Name, d: Dhcid, family: u8, a: Address) -> Entry
-    requires { ⌜ isFull (nameOf n) ≡ true ⌝ }
-    ensures { λ r. ⌜ Fresh n (newHost (updateOf n d family a)) r ⌝ }
+// What stands at a new name: the DHCID and the one address.
+pub(crate) fn fresh(d: Dhcid, family: u8, a: Address) -> Records
+    ensures { λ r. ⌜ Fresh d family a r ⌝ }
 {
     let none4 = set4::none4();
     let none6 = set6::none6();
-    let bare = Entry {
+    let bare = Records {
         kind: 2,
-        name: n,
         dhcid: d,
         v4: none4,
         v6: none6,

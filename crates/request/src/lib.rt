@@ -2,25 +2,28 @@
 // writes at most one place.
 mod decide;
 mod host;
+pub mod lent;
 
 use crate::decide::Change;
 use places::entry::Address;
 use places::entry::Dhcid;
 use places::entry::Entry;
+use places::entry::Records;
 use places::name;
 use places::name::Name;
 use places::survey;
 use places::survey::Survey;
+use places::survey::Visit;
 use places::survey::Zone;
 use zone::numbers;
 ghost use mathlib.Core.Path.{_≡_};
-ghost use mathlib.Core.Bool.{true};
-ghost use Prim.Native.Nat.{_<_};
+ghost use lib.ListN.{length, take};
 ghost use Rattle.zone.specs.Zone.{requestA, requestB, removeAddress, removeName};
-ghost use Rattle.places.specs.Meaning.{nameOf, isFull, inOrder};
+ghost use Rattle.places.specs.Meaning.{nameOf};
+ghost use Rattle.places.specs.Survey.{recordsOf};
 ghost use Rattle.zone.specs.Meaning.{policyOf, updateOf, zoneOf};
 ghost use Rattle.request.specs.Promise.{refusalOf, Promised};
-ghost use Rattle.request.specs.Inner.{requestOf, written as writtenAt, settled, Decides, Refuses};
+ghost use Rattle.request.specs.Inner.{requestOf, written as writtenAt, settled, effectAt, Decides, Comes, Refuses};
 
 // What is sent. kind: 1 request A, 2 request B, 3 the first remove request, any other the second.
 // policy: of request B; 0 where there is none.
@@ -51,9 +54,10 @@ pub struct Answered {
     pub zone: Zone,
 }
 
-// The refusal, 0 where there is none.
-fn refusal(s: Survey, n: Name, family: u8, policy: u8) -> u32
-    ensures { λ r. ⌜ Refuses (nameOf n) family policy s r ⌝ }
+// The refusal, 0 where there is none. The name is the first octets.
+fn refusal(s: Survey, o: &[u8], len: u8, family: u8, policy: u8) -> u32
+    requires { ⌜ length (now o) ≡ 255 ⌝ }
+    ensures { λ r. ⌜ Refuses (take len (now (o .entry))) family policy s r ⌝ }
 {
     if !s.inorder {
         return 17;
@@ -64,27 +68,87 @@ fn refusal(s: Survey, n: Name, family: u8, policy: u8) -> u32
     if !numbers::is_listed(family, policy) {
         return 18;
     }
-    if !name::is_full(n) {
+    let n = len as usize;
+    if !name::is_full_in(&o[..n]) {
         return 11;
     }
     0
 }
 
-// What a request that is not refused comes to.
-fn change_of(s: Survey, q: Request) -> Change
-    requires { ⌜ (isFull (nameOf (q .name)) ≡ true) × (s .found < 64 → inOrder (s .entry) ≡ true) ⌝ }
-    ensures { λ r. ⌜ Decides (requestOf (q .kind) (q .policy) (updateOf (q .name) (q .dhcid) (q .family) (q .address))) (nameOf (q .name)) s r ⌝ }
+// What stands at a place.
+fn records_of(e: Entry) -> Records
+    ensures { λ r. ⌜ r ≡ recordsOf e ⌝ }
 {
+    let d = e.dhcid;
+    let v4 = e.v4;
+    let v6 = e.v6;
+    Records {
+        kind: e.kind,
+        dhcid: d,
+        v4: v4,
+        v6: v6,
+    }
+}
+
+// A change at a name.
+fn effect_at(n: Name, w: Change) -> Effect
+    ensures { λ r. ⌜ r ≡ effectAt n w ⌝ }
+{
+    let r = w.records;
+    let d = r.dhcid;
+    let v4 = r.v4;
+    let v6 = r.v6;
+    let e = Entry {
+        kind: r.kind,
+        name: n,
+        dhcid: d,
+        v4: v4,
+        v6: v6,
+    };
+    Effect {
+        refusal: 0,
+        answer: w.answer,
+        place: w.place,
+        entry: e,
+    }
+}
+
+// What a request other than A comes to. kind: as in a request.
+fn change_of(
+    kind: u8,
+    s: Survey,
+    e: Records,
+    d: Dhcid,
+    family: u8,
+    a: Address,
+    policy: u8,
+) -> Change
+    requires { ⌜ ¬ (kind ≡ 1) ⌝ }
+    ensures { λ r. ⌜ Decides (λ n. requestOf kind policy (updateOf n d family a)) s e r ⌝ }
+{
+    if kind == 2 {
+        return decide::add_address(s, e, d, family, a, policy);
+    }
+    if kind == 3 {
+        return decide::remove_address(s, e, d, family, a);
+    }
+    decide::remove_name(s, e, d)
+}
+
+// What a request that is not refused comes to: A writes its own name, any other leaves the one that
+// stands there.
+fn outcome_of(v: Visit, q: Request) -> Effect
+    ensures { λ r. ⌜ Comes (requestOf (q .kind) (q .policy) (updateOf (q .name) (q .dhcid) (q .family) (q .address))) (nameOf (q .name)) v r ⌝ }
+{
+    let s = v.survey;
     if q.kind == 1 {
-        return decide::add_name(s, q.name, q.dhcid, q.family, q.address);
+        let w = decide::add_name(s, q.dhcid, q.family, q.address);
+        return effect_at(q.name, w);
     }
-    if q.kind == 2 {
-        return decide::add_address(s, q.name, q.dhcid, q.family, q.address, q.policy);
-    }
-    if q.kind == 3 {
-        return decide::remove_address(s, q.name, q.dhcid, q.family, q.address);
-    }
-    decide::remove_name(s, q.name, q.dhcid, q.family, q.address)
+    let old = v.entry;
+    let e = records_of(old);
+    let w = change_of(q.kind, s, e, q.dhcid, q.family, q.address, q.policy);
+    effect_at(old.name, w)
 }
 
 // What a request on a zone comes to, before a place is written.
@@ -92,10 +156,11 @@ fn effect_of(zone: Zone, q: Request) -> Effect
     ensures { λ r. ⌜ Promised zone (refusalOf zone (nameOf (q .name)) (q .family) (q .policy)) (requestOf (q .kind) (q .policy) (updateOf (q .name) (q .dhcid) (q .family) (q .address)) (zoneOf zone)) (settled zone r) ⌝ }
 {
     let n = q.name;
-    let s = survey::survey_of(zone, n);
-    let refused = refusal(s, n, q.family, q.policy);
+    let v = survey::survey_of(zone, n);
+    let s = v.survey;
+    let refused = refusal(s, &n.octets, n.len, q.family, q.policy);
     if refused != 0 {
-        let e = s.entry;
+        let e = v.entry;
         return Effect {
             refusal: refused,
             answer: 0,
@@ -103,14 +168,7 @@ fn effect_of(zone: Zone, q: Request) -> Effect
             entry: e,
         };
     }
-    let w = change_of(s, q);
-    let e = w.entry;
-    Effect {
-        refusal: 0,
-        answer: w.answer,
-        place: w.place,
-        entry: e,
-    }
+    outcome_of(v, q)
 }
 
 // The zone with one place written, or as it is where there is no such place.
@@ -143,8 +201,9 @@ fn settle(zone: Zone, w: Effect) -> Answered
 pub extern "C" fn jespurla_zone_check(zone: Zone, name: Name, family: u8, policy: u8) -> u32
     ensures { λ r. ⌜ r ≡ refusalOf zone (nameOf name) family policy ⌝ }
 {
-    let s = survey::survey_of(zone, name);
-    refusal(s, name, family, policy)
+    let v = survey::survey_of(zone, name);
+    let s = v.survey;
+    refusal(s, &name.octets, name.len, family, policy)
 }
 
 // Request A: adds an absent name with the DHCID and the address.

@@ -10,13 +10,13 @@ use lib.Dec.{eqb}
 use lib.ListN.{getElem?, set}
 use Rattle.zone.specs.Zone.{Zone, Answer, success, YXDOMAIN, NXDOMAIN, NXRRSET, requestA, fits, requestB, removeAddress, removeName}
 use Rattle.job.specs.Jobs.{add, remove, Arguments, End, done, conflict, noRoom, gaveUp, notOurs, gone, kept, Stage, beforeA, beforeB, beforeFirst, beforeSecond, ended, Job, possible, fresh, after, passed, afterFirst, afterSecond, step, sent}
-use Rattle.serial.specs.Demand.{Calls, Promises, going, Fresh, noJob, oneMore, Steps, start, stepped, refused, ownSteps, most, EndsInTime, NeverRefused, SixAtMost}
+use Rattle.serial.specs.Demand.{Calls, Promises, going, Fresh, noJob, oneMore, Steps, start, stepped, refused, ownSteps, most, EndsInTime, NeverRefused, SixAtMost, Delivered}
 use Rattle.zone.proofs.ZoneLaws.{some≢none}
 use Rattle.job.proofs.StageLaws.{each-among}
 use Rattle.serial.proofs.ListLaws.{set-same, set-other}
 use Rattle.serial.proofs.StageLaws.{possible-fresh, possible-step}
 use Rattle.serial.proofs.Placing.{Fits}
-use Rattle.serial.proofs.Demand.{Sent, some-eq, fresh-fits, begins, counts, js, its-job}
+use Rattle.serial.proofs.Demand.{Sent, some-eq, fresh-fits, begins, counts, js, its-job, stronger, demand3, left-out-idle}
 
 fits-after : (j : Arguments) (n : ℕ) (a : Answer) → j .kind ≡ add → Fits j (after n a)
 unfolding after
@@ -141,3 +141,15 @@ module _ (C : Calls) (OkZone : C .Z → Type 0) (Ok : C .J → Type 0) (T : Take
 
   pub never-refused : NeverRefused C
   never-refused z₀ z js ks₀ ks formed new l i k r e p = T .unrefused z k r (zone-stays js z₀ ks₀ formed new l) (all-ok js z₀ ks₀ formed new l i k e) p
+
+-- ---- all of it
+
+pub deliver : (C : Calls) → Promises C → (OkZone : C .Z → Type 0) (Ok : C .J → Type 0) → Taken C OkZone Ok → Delivered C
+deliver C P OkZone Ok T = record {
+  demand3 = demand3 C P;
+  stronger = stronger C P;
+  leftOutIdle = left-out-idle C P;
+  endsInTime = ends-in-time C P;
+  neverRefused = never-refused C OkZone Ok T;
+  sixAtMost = six-at-most C P;
+}

@@ -6,8 +6,9 @@ pub mod OrderLaws
 pub mod Placing
 pub mod Demand
 pub mod InTime
--- The calls that run.
+-- The calls that run, and those on a zone that is kept as octets.
 pub mod Running
+pub mod OnOctets
 -- Lists of steps: P12, and why removes can't be asked to answer alike.
 pub mod Cases
 pub mod RunningCases

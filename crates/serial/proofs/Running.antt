@@ -13,11 +13,10 @@ use Rattle.job.proofs.JobLaws.{possible-before, new-none, new-is, add-is, remov
 use Rattle.step.specs.declared.Stepped.{Stepped}
 use Rattle.step.specs.Promise.{stepRefusal, stepOf, StepPromise}
 use Rattle.step.proofs.AfterLaws.{listed-after, listed-of, full-of, unrefused, zone-after, job-after}
-use Rattle.serial.specs.Demand.{Promises}
-use Rattle.serial.specs.Running.{NewCall, newAdd, newRemove, running, Delivered}
+use Rattle.serial.specs.Demand.{Promises, RefusedKeeps, Delivered}
+use Rattle.serial.specs.Running.{NewCall, newAdd, newRemove, running}
 use Rattle.serial.proofs.StageLaws.{possible-step}
-use Rattle.serial.proofs.Demand.{stronger, demand3, left-out-idle}
-use Rattle.serial.proofs.InTime.{Taken, ends-in-time, never-refused, six-at-most}
+use Rattle.serial.proofs.InTime.{Taken, deliver}
 
 new-job : (j : Arguments) (k : Job) → NewCall j k → jobOf k ≡ record { arguments = j; stage = fresh j }
 unfolding fresh
@@ -35,7 +34,7 @@ kept-promises = record {
 
 -- ---- a job of the list is never refused
 
-abbrev Ok : Job → Type 0
+abbrev pub Ok : Job → Type 0
 Ok k = (numbersListed k ≡ true) × (isFull (nameOf (k .name)) ≡ true)
 
 new-ok : (j : Arguments) (k : Job) → NewCall j k → Ok k
@@ -63,7 +62,7 @@ module _ (z : Zone) (k : Job) (r : Stepped) (p : StepPromise z k r) where
         can : possible (stepOf z k .stage) ≡ true
         can = possible-step (argumentsOf k) (zoneOf z) (stageOf (k .stage) (k .count)) (unfold jobOf in possible-before k (listed-of z k none))
 
-pub taken : Taken running (λ (z : Zone). formed z ≡ true) Ok
+pub taken : Taken running (running .Formed) Ok
 taken = record {
   formed-ok = λ z f. f;
   new-ok = new-ok;
@@ -72,12 +71,10 @@ taken = record {
   job-ok = λ z k r p e. step-ok z k r p e;
 }
 
-pub delivered : Delivered
-delivered = record {
-  demand3 = demand3 running kept-promises;
-  stronger = stronger running kept-promises;
-  leftOutIdle = left-out-idle running kept-promises;
-  endsInTime = ends-in-time running kept-promises;
-  neverRefused = never-refused running (λ z. formed z ≡ true) Ok taken;
-  sixAtMost = six-at-most running kept-promises;
-}
+pub delivered : Delivered running
+delivered = deliver running kept-promises (running .Formed) Ok taken
+
+pub refused-keeps : RefusedKeeps running
+refused-keeps z k r p n =
+    let m : ¬ (stepRefusal z k ≡ 0) = λ e. n (p .refusalIs ∙ e) in
+    (p .zoneKept m, p .jobKept m)

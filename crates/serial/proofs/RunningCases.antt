@@ -1,96 +1,159 @@
--- P12 of the calls that run: whatever they return that meets their promises, the list of steps is one that demand 3 speaks of. Assumes nothing.
+-- P12 of the calls that run, and of those on octets: whatever they return that meets their promises, the list of steps is one that demand 3
+-- speaks of. Assumes nothing.
 use mathlib.Core.Path.{_≡_, refl, sym, _∙_, ap, subst}
 use mathlib.Core.Bool.{true}
-use mathlib.Core.List.{[], _∷_}
+use mathlib.Core.List.{List, [], _∷_}
+use Prim.Native.Nat.{ℕ}
+use lib.ListN.{length}
 use Rattle.places.specs.declared.survey.Zone.{Zone}
 use Rattle.places.specs.Meaning.{formed}
 use Rattle.zone.specs.Zone as rules
 use Rattle.zone.specs.Meaning.{zoneOf}
+use Rattle.lentplaces.specs.Decode.{zoneIn}
 use Rattle.job.specs.declared.job.Job.{Job}
 use Rattle.job.specs.Jobs as jobs
 use Rattle.job.specs.Jobs.{gone, conflict, ended}
-use Rattle.job.specs.Meaning.{jobOf}
 use Rattle.step.specs.declared.Stepped.{Stepped}
+use Rattle.step.specs.declared.lent.StepAnswer.{StepAnswer}
 use Rattle.step.specs.Promise.{StepPromise}
-use Rattle.step.proofs.AfterLaws.{zone-after, job-after}
-use Rattle.serial.specs.Demand.{noJob, oneMore, start, stepped, HeldHaveAddress, Story, Serializable}
+use Rattle.step.specs.Lent.{StepPromiseIn}
+use Rattle.serial.specs.Demand.{Calls, Promises, noJob, oneMore, start, stepped, HeldHaveAddress, Story, Serializable}
 use Rattle.serial.specs.Running.{NewCall, running}
-use Rattle.serial.proofs.Running.{kept-promises, taken, delivered}
+use Rattle.lentplaces.specs.Encode.{Holds}
+use Rattle.serial.specs.OnOctets.{lent, byValue, onOctets}
+use Rattle.serial.proofs.Demand.{demand3}
+use Rattle.serial.proofs.InTime.{Taken}
+use Rattle.serial.proofs.Running.{Ok, kept-promises, taken}
+use Rattle.serial.proofs.OnOctets.{octets-promises, octets-taken}
 use Rattle.serial.proofs.Cases.{stepOf, heldByX, oneAddress, xRemoves, yAdds, newJob, r₁, r₂, r₃, r₄, p12-ends, p12-held}
 
--- What stands in the structs after a step is what the rules make of what stood there before.
-pub record Follows (z : Zone) (k : Job) (y : rules.Zone) (m : jobs.Job) : Type 0 where
-  pub zoneIs : zoneOf z ≡ y
-  pub jobIs : jobOf k ≡ m
-
-follow : (z : Zone) (k : Job) (r : Stepped) → StepPromise z k r → r .refusal ≡ 0 → (y : rules.Zone) (m : jobs.Job) → Follows z k y m → Follows (r .zone) (r .job) (stepOf y m .zone) (stepOf y m .job)
-follow z k r p e y m f = record {
-  zoneIs = zone-after z k r p e ∙ ap (λ (u : jobs.Job). jobs.step (u .arguments) (zoneOf z) (u .stage) .zone) (f .jobIs) ∙ ap (λ (u : rules.Zone). jobs.step (m .arguments) u (m .stage) .zone) (f .zoneIs);
-  jobIs = job-after z k r p e ∙ ap (λ (u : jobs.Job). stepOf (zoneOf z) u .job) (f .jobIs) ∙ ap (λ (u : rules.Zone). stepOf u m .job) (f .zoneIs);
-}
-
 -- X holds pipe with one address. X's remove takes its first step, Y's add both of its steps, and X's remove its second.
-module _ (z : Zone) (kx ky : Job) (s₁ s₂ s₃ s₄ : Stepped) (f : formed z ≡ true) (held : zoneOf z ≡ heldByX oneAddress) (nx : NewCall xRemoves kx) (ny : NewCall yAdds ky)
-    (p₁ : StepPromise z kx s₁) (p₂ : StepPromise (s₁ .zone) ky s₂) (p₃ : StepPromise (s₂ .zone) (s₂ .job) s₃) (p₄ : StepPromise (s₃ .zone) (s₁ .job) s₄) where
-  abbrev x₀ : rules.Zone
-  x₀ = heldByX oneAddress
+pub record P12 (C : Calls) : Type 0 where
+  pub z : C .Z
+  pub kx : C .J
+  pub ky : C .J
+  pub s₁ : C .R
+  pub s₂ : C .R
+  pub s₃ : C .R
+  pub s₄ : C .R
+  pub formed : C .Formed z
+  pub held : C .zoneOf z ≡ heldByX oneAddress
+  pub newX : C .New xRemoves kx
+  pub newY : C .New yAdds ky
+  pub x-first : C .Step z kx s₁
+  pub y-first : C .Step (C .zone s₁) ky s₂
+  pub y-second : C .Step (C .zone s₂) (C .job s₂) s₃
+  pub x-second : C .Step (C .zone s₃) (C .job s₁) s₄
 
-  -- none of the steps is refused
-  e₁ : s₁ .refusal ≡ 0
-  e₁ = taken .unrefused z kx s₁ f (taken .new-ok xRemoves kx nx) p₁
+-- ---- of any calls that keep the promises
 
-  f₁ : formed (s₁ .zone) ≡ true
-  f₁ = taken .zone-ok z kx s₁ p₁ e₁
+module _ (C : Calls) (P : Promises C) where
+  -- What stands after a step is what the rules make of what stood before it.
+  pub record Follows (z : C .Z) (k : C .J) (y : rules.Zone) (m : jobs.Job) : Type 0 where
+    pub zoneIs : C .zoneOf z ≡ y
+    pub jobIs : C .jobOf k ≡ m
 
-  e₂ : s₂ .refusal ≡ 0
-  e₂ = taken .unrefused (s₁ .zone) ky s₂ f₁ (taken .new-ok yAdds ky ny) p₂
-
-  f₂ : formed (s₂ .zone) ≡ true
-  f₂ = taken .zone-ok (s₁ .zone) ky s₂ p₂ e₂
-
-  e₃ : s₃ .refusal ≡ 0
-  e₃ = taken .unrefused (s₂ .zone) (s₂ .job) s₃ f₂ (taken .job-ok (s₁ .zone) ky s₂ p₂ e₂) p₃
-
-  f₃ : formed (s₃ .zone) ≡ true
-  f₃ = taken .zone-ok (s₂ .zone) (s₂ .job) s₃ p₃ e₃
-
-  e₄ : s₄ .refusal ≡ 0
-  e₄ = taken .unrefused (s₃ .zone) (s₁ .job) s₄ f₃ (taken .job-ok z kx s₁ p₁ e₁) p₄
-
-  -- each is the step of the rules
-  t₁ : Follows (s₁ .zone) (s₁ .job) (r₁ x₀ xRemoves yAdds .zone) (r₁ x₀ xRemoves yAdds .job)
-  t₁ = follow z kx s₁ p₁ e₁ x₀ (newJob xRemoves) (record { zoneIs = held; jobIs = kept-promises .new xRemoves kx nx })
-
-  t₂ : Follows (s₂ .zone) (s₂ .job) (r₂ x₀ xRemoves yAdds .zone) (r₂ x₀ xRemoves yAdds .job)
-  t₂ = follow (s₁ .zone) ky s₂ p₂ e₂ (r₁ x₀ xRemoves yAdds .zone) (newJob yAdds) (record { zoneIs = t₁ .zoneIs; jobIs = kept-promises .new yAdds ky ny })
-
-  t₃ : Follows (s₃ .zone) (s₃ .job) (r₃ x₀ xRemoves yAdds .zone) (r₃ x₀ xRemoves yAdds .job)
-  t₃ = follow (s₂ .zone) (s₂ .job) s₃ p₃ e₃ (r₂ x₀ xRemoves yAdds .zone) (r₂ x₀ xRemoves yAdds .job) t₂
-
-  t₄ : Follows (s₄ .zone) (s₄ .job) (r₄ x₀ xRemoves yAdds .zone) (r₄ x₀ xRemoves yAdds .job)
-  t₄ = follow (s₃ .zone) (s₁ .job) s₄ p₄ e₄ (r₃ x₀ xRemoves yAdds .zone) (r₁ x₀ xRemoves yAdds .job) (record { zoneIs = t₃ .zoneIs; jobIs = t₁ .jobIs })
-
-  x-ended : jobOf (s₄ .job) .stage ≡ ended gone
-  x-ended = ap (λ (m : jobs.Job). m .stage) (t₄ .jobIs) ∙ p12-ends .0
-
-  y-ended : jobOf (s₃ .job) .stage ≡ ended (conflict 2)
-  y-ended = ap (λ (m : jobs.Job). m .stage) (t₃ .jobIs) ∙ p12-ends .1
-
-  -- the list of steps: X's remove ends gone, Y's add in conflict after two requests
-  pub p12-runs : Story running
-  p12-runs = record {
-    arguments = xRemoves ∷ yAdds ∷ [];
-    firstZone = z;
-    lastZone = s₄ .zone;
-    firstJobs = kx ∷ ky ∷ [];
-    lastJobs = s₄ .job ∷ s₃ .job ∷ [];
-    ends = gone ∷ conflict 2 ∷ [];
-    formed = f;
-    freshJobs = oneMore nx (oneMore ny noJob);
-    steps = stepped (stepped (stepped (stepped start 0 kx s₁ refl p₁ e₁) 1 ky s₂ refl p₂ e₂) 1 (s₂ .job) s₃ refl p₃ e₃) 0 (s₁ .job) s₄ refl p₄ e₄;
-    allEnded = rw (x-ended, y-ended) refl;
+  follow : (z : C .Z) (k : C .J) (r : C .R) → C .Step z k r → C .refusal r ≡ 0 → (y : rules.Zone) (m : jobs.Job) → Follows z k y m → Follows (C .zone r) (C .job r) (stepOf y m .zone) (stepOf y m .job)
+  follow z k r p e y m f = record {
+    zoneIs = P .zoneAfter z k r p e ∙ ap (λ (u : jobs.Job). jobs.step (u .arguments) (C .zoneOf z) (u .stage) .zone) (f .jobIs) ∙ ap (λ (u : rules.Zone). jobs.step (m .arguments) u (m .stage) .zone) (f .zoneIs);
+    jobIs = P .jobAfter z k r p e ∙ ap (λ (u : jobs.Job). stepOf (C .zoneOf z) u .job) (f .jobIs) ∙ ap (λ (u : rules.Zone). stepOf u m .job) (f .zoneIs);
   }
 
-  pub p12-runs-serial : Serializable running p12-runs
-  unfolding p12-runs
-  p12-runs-serial = delivered .demand3 p12-runs (subst HeldHaveAddress (sym held) p12-held)
+  module _ (OkZone : C .Z → Type 0) (OkJob : C .J → Type 0) (T : Taken C OkZone OkJob) (c : P12 C) where
+    abbrev x₀ : rules.Zone
+    x₀ = heldByX oneAddress
+
+    -- none of the steps is refused
+    e₁ : C .refusal (c .s₁) ≡ 0
+    e₁ = T .unrefused (c .z) (c .kx) (c .s₁) (T .formed-ok (c .z) (c .formed)) (T .new-ok xRemoves (c .kx) (c .newX)) (c .x-first)
+
+    e₂ : C .refusal (c .s₂) ≡ 0
+    e₂ = T .unrefused (C .zone (c .s₁)) (c .ky) (c .s₂) (T .zone-ok (c .z) (c .kx) (c .s₁) (c .x-first) e₁) (T .new-ok yAdds (c .ky) (c .newY)) (c .y-first)
+
+    e₃ : C .refusal (c .s₃) ≡ 0
+    e₃ = T .unrefused (C .zone (c .s₂)) (C .job (c .s₂)) (c .s₃) (T .zone-ok (C .zone (c .s₁)) (c .ky) (c .s₂) (c .y-first) e₂) (T .job-ok (C .zone (c .s₁)) (c .ky) (c .s₂) (c .y-first) e₂) (c .y-second)
+
+    e₄ : C .refusal (c .s₄) ≡ 0
+    e₄ = T .unrefused (C .zone (c .s₃)) (C .job (c .s₁)) (c .s₄) (T .zone-ok (C .zone (c .s₂)) (C .job (c .s₂)) (c .s₃) (c .y-second) e₃) (T .job-ok (c .z) (c .kx) (c .s₁) (c .x-first) e₁) (c .x-second)
+
+    -- each is the step of the rules
+    t₁ : Follows (C .zone (c .s₁)) (C .job (c .s₁)) (r₁ x₀ xRemoves yAdds .zone) (r₁ x₀ xRemoves yAdds .job)
+    t₁ = follow (c .z) (c .kx) (c .s₁) (c .x-first) e₁ x₀ (newJob xRemoves) (record { zoneIs = c .held; jobIs = P .new xRemoves (c .kx) (c .newX) })
+
+    t₂ : Follows (C .zone (c .s₂)) (C .job (c .s₂)) (r₂ x₀ xRemoves yAdds .zone) (r₂ x₀ xRemoves yAdds .job)
+    t₂ = follow (C .zone (c .s₁)) (c .ky) (c .s₂) (c .y-first) e₂ (r₁ x₀ xRemoves yAdds .zone) (newJob yAdds) (record { zoneIs = t₁ .zoneIs; jobIs = P .new yAdds (c .ky) (c .newY) })
+
+    t₃ : Follows (C .zone (c .s₃)) (C .job (c .s₃)) (r₃ x₀ xRemoves yAdds .zone) (r₃ x₀ xRemoves yAdds .job)
+    t₃ = follow (C .zone (c .s₂)) (C .job (c .s₂)) (c .s₃) (c .y-second) e₃ (r₂ x₀ xRemoves yAdds .zone) (r₂ x₀ xRemoves yAdds .job) t₂
+
+    t₄ : Follows (C .zone (c .s₄)) (C .job (c .s₄)) (r₄ x₀ xRemoves yAdds .zone) (r₄ x₀ xRemoves yAdds .job)
+    t₄ = follow (C .zone (c .s₃)) (C .job (c .s₁)) (c .s₄) (c .x-second) e₄ (r₃ x₀ xRemoves yAdds .zone) (r₁ x₀ xRemoves yAdds .job) (record { zoneIs = t₃ .zoneIs; jobIs = t₁ .jobIs })
+
+    x-ended : C .jobOf (C .job (c .s₄)) .stage ≡ ended gone
+    x-ended = ap (λ (m : jobs.Job). m .stage) (t₄ .jobIs) ∙ p12-ends .0
+
+    y-ended : C .jobOf (C .job (c .s₃)) .stage ≡ ended (conflict 2)
+    y-ended = ap (λ (m : jobs.Job). m .stage) (t₃ .jobIs) ∙ p12-ends .1
+
+    -- the list of steps: X's remove ends gone, Y's add in conflict after two requests
+    pub p12-story : Story C
+    p12-story = record {
+      arguments = xRemoves ∷ yAdds ∷ [];
+      firstZone = c .z;
+      lastZone = C .zone (c .s₄);
+      firstJobs = c .kx ∷ c .ky ∷ [];
+      lastJobs = C .job (c .s₄) ∷ C .job (c .s₃) ∷ [];
+      ends = gone ∷ conflict 2 ∷ [];
+      formed = c .formed;
+      freshJobs = oneMore (c .newX) (oneMore (c .newY) noJob);
+      steps = stepped (stepped (stepped (stepped start 0 (c .kx) (c .s₁) refl (c .x-first) e₁) 1 (c .ky) (c .s₂) refl (c .y-first) e₂) 1 (C .job (c .s₂)) (c .s₃) refl (c .y-second) e₃) 0 (C .job (c .s₁)) (c .s₄) refl (c .x-second) e₄;
+      allEnded = rw (x-ended, y-ended) refl;
+    }
+
+    pub p12-story-serial : Serializable C p12-story
+    unfolding p12-story
+    p12-story-serial = demand3 C P p12-story (subst HeldHaveAddress (sym (c .held)) p12-held)
+
+-- ---- of the calls that run
+
+pub p12-runs : P12 running → Story running
+p12-runs = p12-story running kept-promises (running .Formed) Ok taken
+
+pub p12-runs-serial : (c : P12 running) → Serializable running (p12-runs c)
+unfolding p12-runs
+p12-runs-serial = p12-story-serial running kept-promises (running .Formed) Ok taken
+
+-- ---- of those on octets, lent or by value
+
+pub p12-octets : P12 onOctets → Story onOctets
+p12-octets = p12-story onOctets octets-promises (onOctets .Formed) Ok octets-taken
+
+pub p12-octets-serial : (c : P12 onOctets) → Serializable onOctets (p12-octets c)
+unfolding p12-octets
+p12-octets-serial = p12-story-serial onOctets octets-promises (onOctets .Formed) Ok octets-taken
+
+-- A mixture: X's steps on lent octets, Y's by value, what they return stored.
+pub p12-mixed : (z z₁ z₂ z₃ z₄ : List ℕ) (kx ky : Job) (x₁ x₂ : StepAnswer) (y₁ y₂ : Stepped)
+    → length z ≡ 23936 → formed (zoneIn z) ≡ true → zoneOf (zoneIn z) ≡ heldByX oneAddress → NewCall xRemoves kx → NewCall yAdds ky
+    → StepPromiseIn z kx z₁ x₁
+    → StepPromise (zoneIn z₁) ky y₁ → Holds z₂ (y₁ .zone)
+    → StepPromise (y₁ .zone) (y₁ .job) y₂ → Holds z₃ (y₂ .zone)
+    → StepPromiseIn z₃ (x₁ .job) z₄ x₂
+    → P12 onOctets
+p12-mixed z z₁ z₂ z₃ z₄ kx ky x₁ x₂ y₁ y₂ n f h nx ny p₁ p₂ h₂ p₃ h₃ p₄ = record {
+  z = z;
+  kx = kx;
+  ky = ky;
+  s₁ = record { refusal = x₁ .refusal; octets = z₁; job = x₁ .job };
+  s₂ = record { refusal = y₁ .refusal; octets = z₂; job = y₁ .job };
+  s₃ = record { refusal = y₂ .refusal; octets = z₃; job = y₂ .job };
+  s₄ = record { refusal = x₂ .refusal; octets = z₄; job = x₂ .job };
+  formed = (n, f);
+  held = h;
+  newX = nx;
+  newY = ny;
+  x-first = lent z₁ x₁ p₁;
+  y-first = byValue (zoneIn z₁) y₁ z₂ (record { size = p₁ .size ∙ n; zoneIs = refl }) p₂ h₂;
+  y-second = byValue (y₁ .zone) y₂ z₃ h₂ p₃ h₃;
+  x-second = lent z₄ x₂ p₄;
+}

@@ -12,7 +12,7 @@ use Rattle.zone.specs.Zone.{Host, Zone, Form, empty}
 use Rattle.job.specs.Jobs.{Kind, add, remove, Arguments, End, done, conflict, noRoom, gaveUp, notOurs, gone, kept, Stage, beforeA, beforeB, beforeFirst, beforeSecond, ended, Job, fresh, step, Sends, sent}
 
 -- The public calls: the zone and the job that a program holds, and what they mean; what a job step returns; and what is known of a call that
--- has been made. specs/Running.antt gives them for the calls that run.
+-- has been made. specs/Running.antt gives them for the calls that run, specs/OnOctets.antt for those on a zone that is kept as octets.
 pub record Calls : Type 1 where
   pub Z : Type 0
   pub J : Type 0
@@ -203,3 +203,20 @@ NeverRefused C =
 -- No add reports more than six requests.
 abbrev pub SixAtMost : Calls → Type 0
 SixAtMost C = (s : Story C) (i : ℕ) (e : End) (n : ℕ) → getElem? (s .ends) i ≡ some e → sent e ≡ some n → n ≤ 6
+
+-- ---- that a list may leave the zone and the jobs as they were where a step is refused
+
+-- A refused step leaves the very zone and job that it was handed.
+abbrev pub RefusedKeeps : Calls → Type 0
+RefusedKeeps C = (z : C .Z) (k : C .J) (r : C .R) → C .Step z k r → ¬ (C .refusal r ≡ 0) → (C .zone r ≡ z) × (C .job r ≡ k)
+
+-- ---- all of it
+
+-- Demand 3; what is shown beyond it; and that it is not empty.
+pub record Delivered (C : Calls) : Type 0 where
+  pub demand3 : Demand3 C
+  pub stronger : Stronger C
+  pub leftOutIdle : LeftOutIdle C
+  pub endsInTime : EndsInTime C
+  pub neverRefused : NeverRefused C
+  pub sixAtMost : SixAtMost C

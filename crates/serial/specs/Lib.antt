@@ -2,3 +2,5 @@
 pub mod Demand
 -- The calls that run.
 pub mod Running
+-- The calls on a zone that is kept as octets.
+pub mod OnOctets

@@ -1,4 +1,4 @@
--- The calls that run: demand 3's calls with the structs and the promises of crates job and step, and the theorem about them.
+-- The calls that run: demand 3's calls with the structs and the promises of crates job and step.
 use mathlib.Core.Path.{_≡_}
 use mathlib.Core.Bool.{true}
 use Prim.Native.Nat.{ℕ}
@@ -16,7 +16,7 @@ use Rattle.job.specs.Meaning.{jobOf}
 use Rattle.job.specs.Promise.{AddPromise, RemovePromise}
 use Rattle.step.specs.declared.Stepped.{Stepped}
 use Rattle.step.specs.Promise.{StepPromise}
-use Rattle.serial.specs.Demand.{Calls, Demand3, Stronger, LeftOutIdle, EndsInTime, NeverRefused, SixAtMost}
+use Rattle.serial.specs.Demand.{Calls}
 
 -- A new job call that was not refused: what it was given, and the job that it gave. The contracts of the two calls are all that is known.
 pub data NewCall : Arguments → Job → Type 0 where
@@ -39,12 +39,3 @@ running = record {
   New = NewCall;
   Step = StepPromise;
 }
-
--- Demand 3 of the calls that run; what is shown beyond it; and that it is not empty.
-pub record Delivered : Type 0 where
-  pub demand3 : Demand3 running
-  pub stronger : Stronger running
-  pub leftOutIdle : LeftOutIdle running
-  pub endsInTime : EndsInTime running
-  pub neverRefused : NeverRefused running
-  pub sixAtMost : SixAtMost running

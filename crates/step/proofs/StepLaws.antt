@@ -87,6 +87,7 @@ module _ (z : Zone) (j : Job) where
   step-kept p o rule sent next r h l s m leads c = record {
     refusalIs = c .refusalIs ∙ k .refusalIs;
     zoneKept = λ n. c .zoneIs ∙ k .kept n;
+    unchanged = λ e. c .zoneIs ∙ k .unchanged (ap (λ (w : State). w .zone) (sym s) ∙ e);
     jobKept = λ n. c .jobIs ∙ ap (λ (b : Bool). cond b next j) (ne-eqb (sent .refusal) 0 (λ e. n (sym (k .refusalIs) ∙ e)));
     zoneIs = λ e. ap zoneOf (c .zoneIs) ∙ k .done e ∙ ap (λ (w : State). w .zone) (sym s);
     formedAgain = λ e. ap formed (c .zoneIs) ∙ k .formedAgain e;
@@ -113,6 +114,7 @@ module _ (z : Zone) (j : Job) where
       record {
         refusalIs = e;
         zoneKept = λ n. refl;
+        unchanged = λ q. refl;
         jobKept = λ n. refl;
         zoneIs = λ q. absurd (omega arith);
         formedAgain = λ q. absurd (omega arith);
@@ -125,6 +127,7 @@ module _ (z : Zone) (j : Job) where
       record {
         refusalIs = e;
         zoneKept = λ n. refl;
+        unchanged = λ q. refl;
         jobKept = λ n. refl;
         zoneIs = λ q. absurd (omega arith);
         formedAgain = λ q. absurd (omega arith);
@@ -165,6 +168,7 @@ pub step-idle : (z : Zone) (j : Job) (refusal : ℕ) → numbersListed j ≡ tru
 step-idle z j refusal h i e = record {
   refusalIs = e ∙ same;
   zoneKept = λ n. refl;
+  unchanged = λ q. refl;
   jobKept = λ n. refl;
   zoneIs = λ q. sym (ap (λ (w : State). w .zone) stays);
   formedAgain = λ q. formed-is q;

@@ -5,12 +5,19 @@ use Prim.Native.Nat.{ℕ}
 use lib.Dec.{eqb}
 use Rattle.request.specs.declared.Answered.{Answered}
 use Rattle.job.specs.declared.job.Job.{Job}
+use Rattle.request.specs.declared.lent.RequestAnswer.{RequestAnswer}
 use Rattle.step.specs.declared.Stepped.{Stepped}
+use Rattle.step.specs.declared.lent.StepAnswer.{StepAnswer}
 
 -- What a request came to, and the next job unless it was refused.
 pub record Carried (sent : Answered) (j next : Job) (r : Stepped) : Type 0 where
   pub refusalIs : r .refusal ≡ sent .refusal
   pub zoneIs : r .zone ≡ sent .zone
+  pub jobIs : r .job ≡ cond (eqb (sent .refusal) 0) next j
+
+-- The same where the zone is lent.
+pub record CarriedIn (sent : RequestAnswer) (j next : Job) (r : StepAnswer) : Type 0 where
+  pub refusalIs : r .refusal ≡ sent .refusal
   pub jobIs : r .job ≡ cond (eqb (sent .refusal) 0) next j
 
 -- The number of no stage that sends a request.

@@ -19,10 +19,11 @@ abbrev pub stepOf : Zone → Job → State
 stepOf z j = step (argumentsOf j) (zoneOf z) (stageOf (j .stage) (j .count))
 
 -- A refused step hands back the very same zone and job. Any other hands back the rules' zone, in good form, at whichever places its names
--- stand, and the same job at the rules' stage.
+-- stand, and the same job at the rules' stage. Where the rules leave the zone as it is, the very same zone comes back, every octet of it.
 pub record StepPromise (z : Zone) (j : Job) (r : Stepped) : Type 0 where
   pub refusalIs : r .refusal ≡ stepRefusal z j
   pub zoneKept : ¬ (stepRefusal z j ≡ 0) → r .zone ≡ z
+  pub unchanged : stepOf z j .zone ≡ zoneOf z → r .zone ≡ z
   pub jobKept : ¬ (stepRefusal z j ≡ 0) → r .job ≡ j
   pub zoneIs : stepRefusal z j ≡ 0 → zoneOf (r .zone) ≡ stepOf z j .zone
   pub formedAgain : stepRefusal z j ≡ 0 → formed (r .zone) ≡ true

@@ -1,5 +1,7 @@
 // The step of a job: the one request that its stage asks for, and where the answer leads. The zone is
 // known by the promises of its requests alone.
+pub mod lent;
+
 use job::answer;
 use job::job::Job;
 use job::stage;

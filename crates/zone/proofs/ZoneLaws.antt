@@ -11,7 +11,7 @@ use Rattle.octets.proofs.CompareLaws.{same-self, same-true}
 use Rattle.dname.specs.Name.{key}
 use Rattle.hosts.specs.Count.{Octets, Counts}
 use Rattle.hosts.specs.Addresses.{Family, four, six, Addresses, nothing, one, mark}
-use Rattle.hosts.proofs.CountLaws.{same-no, same-dec, counts-eq, counts-nothing, counts-ext, counts-mark}
+use Rattle.hosts.proofs.CountLaws.{same-yes, same-no, same-dec, counts-eq, counts-nothing, counts-ext, counts-mark}
 use Rattle.hosts.proofs.SetLaws.{set-eq}
 use Rattle.zone.specs.Zone.{Host, Zone, there, GoodHost, Form, isFamily, with, put, Update, Policy, keepOthers, oneOfFamily, onlyThis, success, YXDOMAIN, NXDOMAIN, NXRRSET, noRoom, says, atName, ownFamily, heldBy, empty, address, newHost, requestA, left, fits, writeB, requestB, removeAddress, removeName}
 
@@ -189,6 +189,21 @@ put-off n v z k q = rw (same-no (key n) k q)
 pub put-size : (n : Octets) (v : Option Host) (z : Zone) → put n v z .size ≡ (z .size + one (there v)) - one (there (z .at (key n)))
 unfolding put
 put-size n v z = refl
+
+-- what is written at a name is what stood there already, exactly when the zone stays as it is
+pub put-same : (n : Octets) (h : Host) (z : Zone) → z .at (key n) ≡ some h → put n (some h) z ≡ z
+unfolding put
+put-same n h z e =
+    let m : (z .size + 1) - one (there (z .at (key n))) ≡ z .size = rw e (omega arith) in
+    let f : _≡_ {A = Octets → Option Host} (λ k. cond (sameOctets (key n) k) (some h) (z .at k)) (z .at) = fun-ext (λ k. go k (same-dec (key n) k)) in
+    λ i. record { size = m i; at = f i }
+  where
+    go : (k : Octets) → Dec (key n ≡ k) → cond (sameOctets (key n) k) (some h) (z .at k) ≡ z .at k
+    go k (yes p) = rw (same-yes (key n) k p) (sym e ∙ ap (z .at) p)
+    go k (no q) = rw (same-no (key n) k q) refl
+
+pub put-stood : (n : Octets) (v : Option Host) (z : Zone) → put n v z ≡ z → v ≡ z .at (key n)
+put-stood n v z e = sym (put-at n v z) ∙ ap (λ (x : Zone). x .at (key n)) e
 
 there-cond : (b : Bool) (u v : Option Host) → cond b (there u) (there v) ≡ there (cond b u v)
 there-cond true u v = refl

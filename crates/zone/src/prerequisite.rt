@@ -1,28 +1,29 @@
 // The tests that requests make at a name before they write: RFC 2136 calls them prerequisites.
 use hosts::set4;
 use hosts::set6;
-use places::entry::Dhcid;
-use places::entry::Entry;
+use places::entry::Records;
 ghost use mathlib.Core.Path.{_≡_};
+ghost use mathlib.Core.Bool.{cond};
+ghost use mathlib.Core.Option.{none, some};
+ghost use lib.Dec.{eqb};
+ghost use Rattle.places.specs.declared.name.Name.{Name};
+ghost use Rattle.places.specs.Survey.{placeOf};
 ghost use Rattle.zone.specs.Zone.{heldBy, empty};
 ghost use Rattle.zone.specs.Meaning.{hostOf};
 
-// Whether the DHCID holds the name that stands there.
-pub fn is_held(e: Entry, d: Dhcid) -> bool
-    ensures { λ r. ⌜ r ≡ heldBy (d .octets) (hostOf e .owner) ⌝ }
+// Whether the DHCID holds a name of this kind, at which the other DHCID stands.
+pub fn is_held(kind: u8, held: &[u8], dhcid: &[u8]) -> bool
+    ensures { λ r. ⌜ r ≡ heldBy (now (dhcid .entry)) (cond (eqb kind 1) none (some (now (held .entry)))) ⌝ }
 {
-    if e.kind == 1 {
+    if kind == 1 {
         return false;
     }
-    let h = e.dhcid;
-    let o = h.octets;
-    let p = d.octets;
-    octets::compare::same(&o, &p)
+    octets::compare::same(held, dhcid)
 }
 
-// Whether the name that stands there has no address.
-pub fn is_empty(e: Entry) -> bool
-    ensures { λ r. ⌜ r ≡ empty (hostOf e) ⌝ }
+// Whether a name at which this stands has no address.
+pub fn is_empty(e: Records) -> bool
+    ensures { λ r. ⌜ ((n : Name) → r ≡ empty (hostOf (placeOf n e))) ⌝ }
 {
     let v4 = e.v4;
     if !set4::empty4(v4) {

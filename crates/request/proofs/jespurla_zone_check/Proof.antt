@@ -9,7 +9,7 @@ refusal-requires : tie.Need-refusal-requires
 refusal-requires c κs = search needs
 
 returns : tie.Need-returns
-returns c = c .refusal .ensures .refuses (c .before .before .args .zone) (c .before .survey-of .ensures)
+returns c = c .refusal .ensures .refuses (c .before .before .before .before .before .before .args .zone) (c .before .before .before .before .before .survey-of .ensures .surveyed)
 
 pub jespurla-zone-check-spec : {M : Type 1} → statement M
 jespurla-zone-check-spec = tie.close (tie.spec survey-of-requires refusal-requires returns)

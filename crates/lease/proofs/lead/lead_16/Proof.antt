@@ -1,6 +1,7 @@
 use mathlib.Core.Path.{_≡_, sym, _∙_, ap}
 use native.Mathlib.Omega.{arith}
-use Rattle.lease.specs.Lead.{value, leading}
+use Rattle.octets.specs.Word.{value}
+use Rattle.lease.specs.Lead.{leading}
 use lib.ListN.{length}
 use Rattle.lease.proofs.LeadLaws.{first-eight}
 use borrow.Author.Needs.{needs}

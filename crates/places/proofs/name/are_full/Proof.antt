@@ -1,55 +1,16 @@
-use mathlib.Core.Path.{sym, _∙_, ap}
-use Rattle.places.specs.Meaning.{full, isFull}
 use Rattle.places.proofs.PrintLaws.{prefix-length}
 use borrow.Author.Needs.{needs}
 use Rattle.places.proofs.name.are_full.Statement.{statement}
 use Rattle.places.proofs.name.are_full.Tie as tie
 
-slice-aggregate-shape-of : tie.Need-slice-aggregate-shape-of
-slice-aggregate-shape-of c = prefix-length _ _ (search needs)
+slice-aggregate-is-full-in : tie.Need-slice-aggregate-is-full-in
+slice-aggregate-is-full-in c = prefix-length _ _ (search needs)
 
-shape-of-requires : tie.Need-shape-of-requires
-shape-of-requires c κs = search needs
-
-enum-told : tie.Need-enum-told
-enum-told c = search needs
-
-enum-told-2 : tie.Need-enum-told-2
-enum-told-2 c = search needs
-
-enum-told-3 : tie.Need-enum-told-3
-enum-told-3 c = search needs
-
-enum-told-4 : tie.Need-enum-told-4
-enum-told-4 c = search needs
+is-full-in-requires : tie.Need-is-full-in-requires
+is-full-in-requires c κs = search needs
 
 returns : tie.Need-returns
-unfolding isFull
-returns c = sym (ap full (sym (c .before .before .shape-of .ensures) ∙ c .enum-told .given .1))
-
-returns-2 : tie.Need-returns-2
-unfolding isFull
-returns-2 c = sym (ap full (sym (c .before .before .shape-of .ensures) ∙ c .enum-told2 .given .1))
-
-returns-3 : tie.Need-returns-3
-unfolding isFull
-returns-3 c = sym (ap full (sym (c .before .before .shape-of .ensures) ∙ c .enum-told3 .given .1))
-
-returns-4 : tie.Need-returns-4
-unfolding isFull
-returns-4 c = sym (ap full (sym (c .before .before .shape-of .ensures) ∙ c .enum-told4 .given .1))
+returns c = search needs
 
 pub are-full-spec : {M : Type 1} → statement M
-are-full-spec =
-    tie.close
-    (tie.spec
-    slice-aggregate-shape-of
-    shape-of-requires
-    enum-told
-    enum-told-2
-    enum-told-3
-    enum-told-4
-    returns
-    returns-2
-    returns-3
-    returns-4)
+are-full-spec = tie.close (tie.spec slice-aggregate-is-full-in is-full-in-requires returns)

@@ -1,70 +1,85 @@
-use mathlib.Core.Path.{_≡_, refl, sym, _∙_, ap}
-use Prim.Native.Nat.{ℕ, _≤_, _-_, _+_, _*_}
+use borrow.Author.Needs.{needs}
+use mathlib.Core.Path.{_≡_, sym, _∙_, ap}
+use Prim.Native.Nat.{ℕ, _+_, _*_, _-_, _<_}
 use native.Mathlib.Omega.{arith}
 use lib.ListN.{length}
-use borrow.Author.Needs.{needs}
-use Rattle.octets.specs.Number.{numberAt}
-use Rattle.places.specs.Survey.{mix, printFrom, printWords}
-use Rattle.places.proofs.PrintLaws.{print-step, print-end}
+use Rattle.places.specs.Survey.{folded, wrapped, printFrom, printWords}
+use Rattle.places.proofs.PrintLaws.{more, print-long, print-step, print-end}
 use Rattle.places.proofs.print.print.Statement.{statement}
 use Rattle.places.proofs.print.print.Tie as tie
 
 abbrev Inv-loop : tie.InvT-loop
-Inv-loop s sum₀ sums₀ i₀ left₀ sum sums i left = (i + 4 * left ≤ length s) × (sum ≤ 1073741824 * i) × (sums ≤ 68719476736 * i) × (printWords s ≡ printFrom left i sum sums s)
+Inv-loop s sum₀ sums₀ i₀ left₀ sum sums i left = (i + 8 * left < length s) × (printWords s ≡ printFrom left i sum sums s)
 
 abbrev μ-loop : tie.MeasureT-loop
 μ-loop s sum₀ sums₀ i₀ left₀ sum sums i left = left
 
+short-print-requires : tie.Need-short-print-requires Inv-loop μ-loop
+short-print-requires c κs = search needs
+
+returns : tie.Need-returns Inv-loop μ-loop
+returns c = search needs
+
+sub-left : tie.Need-sub-left Inv-loop μ-loop
+sub-left c = omega arith
+
 loop-holds : tie.Need-loop-holds Inv-loop μ-loop
-loop-holds c = (omega arith, search needs, search needs, unfold printWords in refl)
+loop-holds c = (omega arith, print-long _ (omega arith))
 
 word-requires : tie.Need-word-requires Inv-loop μ-loop
 word-requires c κs = omega arith
 
-add-sum : tie.Need-add-sum Inv-loop μ-loop
-add-sum c = omega arith
+wrapping-add-u64-requires : tie.Need-wrapping-add-u64-requires Inv-loop μ-loop
+wrapping-add-u64-requires c κs = search needs
 
-add-sums : tie.Need-add-sums Inv-loop μ-loop
-add-sums c = omega arith
+wrapping-add-u64-requires-2 : tie.Need-wrapping-add-u64-requires-2 Inv-loop μ-loop
+wrapping-add-u64-requires-2 c κs = search needs
 
 add-i : tie.Need-add-i Inv-loop μ-loop
 add-i c = omega arith
 
-sub-left : tie.Need-sub-left Inv-loop μ-loop
-sub-left c = omega arith
+sub-left-2 : tie.Need-sub-left-2 Inv-loop μ-loop
+sub-left-2 c = omega arith
 
 loop-less : tie.Need-loop-less Inv-loop μ-loop
 loop-less c = omega arith
 
 loop-again : tie.Need-loop-again Inv-loop μ-loop
 loop-again c =
-    let s = c .before .before .before .before .args .s .now in
-    let l = c .before .before .loop in
-    let w = c .word .ensures .0 in
-    let h : printWords s ≡ printFrom (l .left - 1) (l .i + 4) (l .sum + numberAt 4 s (l .i)) (l .sums + (l .sum + numberAt 4 s (l .i))) s = l .inv .3 ∙ print-step (l .left) (l .left - 1) (l .i) (l .sum) (l .sums) s (omega arith) in
-    (omega arith, omega arith, omega arith, h ∙ ap (λ (y : ℕ). printFrom (l .left - 1) (l .i + 4) (l .sum + y) (l .sums + (l .sum + y)) s) (sym w))
+    let s = c .before .before .before .before .before .before .before .args .s .now in
+    let l = c .before .before .before .before .loop in
+    let w = c .before .before .word .ensures in
+    let p : c .before .wrapping-add-u64 .result ≡ more s (l .i) (l .sum) = c .before .wrapping-add-u64 .ensures ∙ ap (λ (y : ℕ). wrapped (l .sum + y)) w in
+    let q : c .wrapping-add-u642 .result ≡ wrapped (l .sums + more s (l .i) (l .sum)) = c .wrapping-add-u642 .ensures ∙ ap (λ (y : ℕ). wrapped (l .sums + y)) p in (
+      omega arith,
+      l .inv .1 ∙ print-step (l .left) (l .left - 1) (l .i) (l .sum) (l .sums) s (omega arith)
+          ∙ ap (λ (y : ℕ). printFrom (l .left - 1) (l .i + 8) y (wrapped (l .sums + more s (l .i) (l .sum))) s) (sym p)
+          ∙ ap (λ (y : ℕ). printFrom (l .left - 1) (l .i + 8) (c .before .wrapping-add-u64 .result) y s) (sym q),
+    )
 
-last-word-requires : tie.Need-last-word-requires Inv-loop μ-loop
-last-word-requires c κs = search needs
+sub-word : tie.Need-sub-word Inv-loop μ-loop
+sub-word c = omega arith
 
-add-mixed : tie.Need-add-mixed Inv-loop μ-loop
-add-mixed c = omega arith
+word-requires-2 : tie.Need-word-requires-2 Inv-loop μ-loop
+word-requires-2 c κs = omega arith
 
-add-mixed-2 : tie.Need-add-mixed-2 Inv-loop μ-loop
-add-mixed-2 c = omega arith
+wrapping-add-u64-requires-3 : tie.Need-wrapping-add-u64-requires-3 Inv-loop μ-loop
+wrapping-add-u64-requires-3 c κs = search needs
 
-add-mixed-3 : tie.Need-add-mixed-3 Inv-loop μ-loop
-add-mixed-3 c = omega arith
+wrapping-add-u64-requires-4 : tie.Need-wrapping-add-u64-requires-4 Inv-loop μ-loop
+wrapping-add-u64-requires-4 c κs = search needs
 
-mixed-requires : tie.Need-mixed-requires Inv-loop μ-loop
-mixed-requires c κs = (omega arith, omega arith)
+fold-requires : tie.Need-fold-requires Inv-loop μ-loop
+fold-requires c κs = search needs
 
-returns : tie.Need-returns Inv-loop μ-loop
-returns c =
-    let s = c .before .before .before .before .before .args .s .now in
-    let l = c .before .before .before .loop in
-    let w = c .before .last-word .ensures .0 in
-    c .mixed .ensures ∙ ap (λ (y : ℕ). mix (l .sum + y) (l .sums + (l .sum + y))) w ∙ sym (l .inv .3 ∙ print-end (l .left) (l .i) (l .sum) (l .sums) s (omega arith))
+returns-2 : tie.Need-returns-2 Inv-loop μ-loop
+returns-2 c =
+    let s = c .before .before .before .before .before .before .before .before .args .s .now in
+    let l = c .before .before .before .before .before .loop in
+    let w = c .before .before .before .word2 .ensures in
+    let p : c .before .before .wrapping-add-u643 .result ≡ more s (length s - 8) (l .sum) = c .before .before .wrapping-add-u643 .ensures ∙ ap (λ (y : ℕ). wrapped (l .sum + y)) w in
+    let q : c .before .wrapping-add-u644 .result ≡ wrapped (l .sums + more s (length s - 8) (l .sum)) = c .before .wrapping-add-u644 .ensures ∙ ap (λ (y : ℕ). wrapped (l .sums + y)) p in
+    c .fold .ensures ∙ ap folded q ∙ sym (l .inv .1 ∙ print-end (l .left) (l .i) (l .sum) (l .sums) s (omega arith))
 
 pub print-spec : {M : Type 1} → statement M
 print-spec =
@@ -72,17 +87,20 @@ print-spec =
     (tie.spec
     Inv-loop
     μ-loop
+    short-print-requires
+    returns
+    sub-left
     loop-holds
     word-requires
-    add-sum
-    add-sums
+    wrapping-add-u64-requires
+    wrapping-add-u64-requires-2
     add-i
-    sub-left
+    sub-left-2
     loop-less
     loop-again
-    last-word-requires
-    add-mixed
-    add-mixed-2
-    add-mixed-3
-    mixed-requires
-    returns)
+    sub-word
+    word-requires-2
+    wrapping-add-u64-requires-3
+    wrapping-add-u64-requires-4
+    fold-requires
+    returns-2)

@@ -1,88 +1,78 @@
-use native.Mathlib.Nat.{zero-add, add-zero}
-use native.Mathlib.Omega.{arith}
-use lib.ListN.{getD}
-use Prim.Native.Nat.{_+_}
-use Rattle.octets.specs.Number.{numberAt}
+use Rattle.places.specs.Survey.{wordAt}
 use borrow.Author.Needs.{needs}
 use Rattle.places.proofs.print.word.Statement.{statement}
 use Rattle.places.proofs.print.word.Tie as tie
 
-shared-slice-read-wide : tie.Need-shared-slice-read-wide
-shared-slice-read-wide c = search needs
+shared-slice-read-eight : tie.Need-shared-slice-read-eight
+shared-slice-read-eight c = search needs
 
-wide-requires : tie.Need-wide-requires
-wide-requires c κs = search needs
+add-eight : tie.Need-add-eight
+add-eight c = search needs
 
-add-wide : tie.Need-add-wide
-add-wide c = search needs
+shared-slice-read-eight-2 : tie.Need-shared-slice-read-eight-2
+shared-slice-read-eight-2 c = search needs
 
-shared-slice-read-wide-2 : tie.Need-shared-slice-read-wide-2
-shared-slice-read-wide-2 c = search needs
+add-eight-2 : tie.Need-add-eight-2
+add-eight-2 c = search needs
 
-wide-requires-2 : tie.Need-wide-requires-2
-wide-requires-2 c κs = search needs
+shared-slice-read-eight-3 : tie.Need-shared-slice-read-eight-3
+shared-slice-read-eight-3 c = search needs
 
-add-wide-2 : tie.Need-add-wide-2
-add-wide-2 c = search needs
+add-eight-3 : tie.Need-add-eight-3
+add-eight-3 c = search needs
 
-shared-slice-read-wide-3 : tie.Need-shared-slice-read-wide-3
-shared-slice-read-wide-3 c = search needs
+shared-slice-read-eight-4 : tie.Need-shared-slice-read-eight-4
+shared-slice-read-eight-4 c = search needs
 
-wide-requires-3 : tie.Need-wide-requires-3
-wide-requires-3 c κs = search needs
+add-eight-4 : tie.Need-add-eight-4
+add-eight-4 c = search needs
 
-add-wide-3 : tie.Need-add-wide-3
-add-wide-3 c = search needs
+shared-slice-read-eight-5 : tie.Need-shared-slice-read-eight-5
+shared-slice-read-eight-5 c = search needs
 
-shared-slice-read-wide-4 : tie.Need-shared-slice-read-wide-4
-shared-slice-read-wide-4 c = search needs
+add-eight-5 : tie.Need-add-eight-5
+add-eight-5 c = search needs
 
-wide-requires-4 : tie.Need-wide-requires-4
-wide-requires-4 c κs = search needs
+shared-slice-read-eight-6 : tie.Need-shared-slice-read-eight-6
+shared-slice-read-eight-6 c = search needs
 
-mul-result : tie.Need-mul-result
-mul-result c = search needs
+add-eight-6 : tie.Need-add-eight-6
+add-eight-6 c = search needs
 
-add-result : tie.Need-add-result
-add-result c = search needs
+shared-slice-read-eight-7 : tie.Need-shared-slice-read-eight-7
+shared-slice-read-eight-7 c = search needs
 
-mul-result-2 : tie.Need-mul-result-2
-mul-result-2 c = search needs
+add-eight-7 : tie.Need-add-eight-7
+add-eight-7 c = search needs
 
-add-result-2 : tie.Need-add-result-2
-add-result-2 c = search needs
+shared-slice-read-eight-8 : tie.Need-shared-slice-read-eight-8
+shared-slice-read-eight-8 c = search needs
 
-mul-result-3 : tie.Need-mul-result-3
-mul-result-3 c = search needs
-
-add-result-3 : tie.Need-add-result-3
-add-result-3 c = search needs
+eight-requires : tie.Need-eight-requires
+eight-requires c κs = search needs
 
 returns : tie.Need-returns
-unfolding numberAt
-returns c =
-    let a = c .before .before .before .before .before .before .before .before .before .args in
-    (cc (zero-add (getD (a .s .now) (a .i + 0) 0), add-zero (a .i)), omega arith)
+unfolding wordAt
+returns c = c .eight .ensures
 
 pub word-spec : {M : Type 1} → statement M
 word-spec =
     tie.close
     (tie.spec
-    shared-slice-read-wide
-    wide-requires
-    add-wide
-    shared-slice-read-wide-2
-    wide-requires-2
-    add-wide-2
-    shared-slice-read-wide-3
-    wide-requires-3
-    add-wide-3
-    shared-slice-read-wide-4
-    wide-requires-4
-    mul-result
-    add-result
-    mul-result-2
-    add-result-2
-    mul-result-3
-    add-result-3
+    shared-slice-read-eight
+    add-eight
+    shared-slice-read-eight-2
+    add-eight-2
+    shared-slice-read-eight-3
+    add-eight-3
+    shared-slice-read-eight-4
+    add-eight-4
+    shared-slice-read-eight-5
+    add-eight-5
+    shared-slice-read-eight-6
+    add-eight-6
+    shared-slice-read-eight-7
+    add-eight-7
+    shared-slice-read-eight-8
+    eight-requires
     returns)

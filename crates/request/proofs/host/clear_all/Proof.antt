@@ -1,5 +1,5 @@
-use mathlib.Core.Path.{refl}
 use Rattle.request.proofs.HostLaws.{kept-empty}
+use Rattle.places.specs.Survey.{placeOf}
 use borrow.Author.Needs.{needs}
 use Rattle.request.proofs.host.clear_all.Statement.{statement}
 use Rattle.request.proofs.host.clear_all.Tie as tie
@@ -15,7 +15,7 @@ returns c =
     let s = c .before .before in
     let a = c .before .none4 .ensures in
     let b = c .none6 .ensures in
-    kept-empty (s .args .e) _ (s .pre) refl refl refl (a .0) (a .1) (b .0) (b .1)
+    record { makes = λ n o. kept-empty (placeOf n (s .args .e)) _ _ o (a .0) (a .1) (b .0) (b .1) }
 
 pub clear-all-spec : {M : Type 1} → statement M
 clear-all-spec = tie.close (tie.spec none4-requires none6-requires returns)

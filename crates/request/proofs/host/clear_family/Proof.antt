@@ -3,6 +3,7 @@ use Rattle.hosts.specs.Addresses.{Family, nothing}
 use Rattle.zone.specs.Zone.{with}
 use Rattle.zone.specs.Meaning.{hostOf}
 use Rattle.request.proofs.HostLaws.{kept4, kept6, kept-to, set-nothing, sound-nothing, family-four, family-six}
+use Rattle.places.specs.Survey.{placeOf}
 use borrow.Author.Needs.{needs}
 use Rattle.request.proofs.host.clear_family.Statement.{statement}
 use Rattle.request.proofs.host.clear_family.Tie as tie
@@ -14,8 +15,10 @@ returns : tie.Need-returns
 returns c =
     let s = c .before .before in
     let w = c .none4 .ensures in
-    kept-to (kept4 (s .args .e) (s .pre) (c .none4 .result) nothing (sound-nothing _ _ (w .1) (w .0)) (set-nothing _ (w .0)))
-    (ap (λ (f : Family). with f nothing (hostOf (s .args .e))) (sym (family-four (s .args .family) (c .before .if1 .taken))))
+    record {
+      makes = λ n o. kept-to (kept4 (placeOf n (s .args .e)) o (c .none4 .result) nothing (sound-nothing _ _ (w .1) (w .0)) (set-nothing _ (w .0)))
+          (ap (λ (f : Family). with f nothing (hostOf (placeOf n (s .args .e)))) (sym (family-four (s .args .family) (c .before .if1 .taken))));
+    }
 
 none6-requires : tie.Need-none6-requires
 none6-requires c κs = search needs
@@ -24,8 +27,10 @@ returns-2 : tie.Need-returns-2
 returns-2 c =
     let s = c .before .before in
     let w = c .none6 .ensures in
-    kept-to (kept6 (s .args .e) (s .pre) (c .none6 .result) nothing (sound-nothing _ _ (w .1) (w .0)) (set-nothing _ (w .0)))
-    (ap (λ (f : Family). with f nothing (hostOf (s .args .e))) (sym (family-six (s .args .family) (c .before .if1 .left))))
+    record {
+      makes = λ n o. kept-to (kept6 (placeOf n (s .args .e)) o (c .none6 .result) nothing (sound-nothing _ _ (w .1) (w .0)) (set-nothing _ (w .0)))
+          (ap (λ (f : Family). with f nothing (hostOf (placeOf n (s .args .e)))) (sym (family-six (s .args .family) (c .before .if1 .left))));
+    }
 
 pub clear-family-spec : {M : Type 1} → statement M
 clear-family-spec = tie.close (tie.spec none4-requires returns none6-requires returns-2)

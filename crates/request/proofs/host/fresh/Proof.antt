@@ -1,4 +1,4 @@
-use Rattle.request.proofs.HostLaws.{bare-order, made}
+use Rattle.request.proofs.HostLaws.{made}
 use borrow.Author.Needs.{needs}
 use Rattle.request.proofs.host.fresh.Statement.{statement}
 use Rattle.request.proofs.host.fresh.Tie as tie
@@ -10,18 +10,14 @@ none6-requires : tie.Need-none6-requires
 none6-requires c κs = search needs
 
 join-requires : tie.Need-join-requires
-join-requires c κs =
-    let s = c .before .before in
-    let a = c .before .none4 .ensures in
-    let b = c .none6 .ensures in
-    bare-order (s .args .n) (s .args .d) _ _ (a .0) (a .1) (b .0) (b .1) (s .pre)
+join-requires c κs = search needs
 
 returns : tie.Need-returns
 returns c =
-    let s = c .before .before .before in
-    let a = c .before .before .none4 .ensures in
-    let b = c .before .none6 .ensures in
-    made (s .args .n) (s .args .d) _ _ (a .0) (a .1) (b .0) (b .1) (s .args .family) (s .args .a) (c .join .result) (c .join .ensures)
+    let s = c .before .before .before .args in
+    let p = c .before .before .none4 .ensures in
+    let q = c .before .none6 .ensures in
+    record { stands = λ n. made n (s .d) _ _ (p .0) (p .1) (q .0) (q .1) (s .family) (s .a) (c .join .result) (c .join .ensures) }
 
 pub fresh-spec : {M : Type 1} → statement M
 fresh-spec = tie.close (tie.spec none4-requires none6-requires join-requires returns)

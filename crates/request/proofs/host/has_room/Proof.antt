@@ -1,6 +1,7 @@
 use mathlib.Core.Path.{sym, _∙_}
 use Rattle.hosts.specs.Addresses.{four, six}
 use Rattle.request.proofs.HostLaws.{means4, means6, fits-by}
+use Rattle.places.specs.Survey.{placeOf}
 use borrow.Author.Needs.{needs}
 use Rattle.request.proofs.host.has_room.Statement.{statement}
 use Rattle.request.proofs.host.has_room.Tie as tie
@@ -14,7 +15,7 @@ fits4-requires c κs = search needs
 returns : tie.Need-returns
 returns c =
     let s = c .before .before .before .before in
-    record { roomIs = λ u b. c .fits4 .ensures ∙ sym (fits-by (s .args .e) u four _ (means4 b (c .before .before .before .if1 .taken) (c .before .addr4 .ensures))) }
+    record { roomIs = λ n u b. c .fits4 .ensures ∙ sym (fits-by (placeOf n (s .args .e)) u four _ (means4 b (c .before .before .before .if1 .taken) (c .before .addr4 .ensures))) }
 
 addr6-requires : tie.Need-addr6-requires
 addr6-requires c κs = search needs
@@ -25,7 +26,7 @@ fits6-requires c κs = search needs
 returns-2 : tie.Need-returns-2
 returns-2 c =
     let s = c .before .before .before .before in
-    record { roomIs = λ u b. c .fits6 .ensures ∙ sym (fits-by (s .args .e) u six _ (means6 b (c .before .before .before .if1 .left) (c .before .addr6 .ensures))) }
+    record { roomIs = λ n u b. c .fits6 .ensures ∙ sym (fits-by (placeOf n (s .args .e)) u six _ (means6 b (c .before .before .before .if1 .left) (c .before .addr6 .ensures))) }
 
 pub has-room-spec : {M : Type 1} → statement M
 has-room-spec =

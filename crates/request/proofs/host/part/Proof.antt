@@ -1,4 +1,5 @@
 use Rattle.request.proofs.HostLaws.{means4, means6, parted4, parted6}
+use Rattle.places.specs.Survey.{placeOf}
 use borrow.Author.Needs.{needs}
 use Rattle.request.proofs.host.part.Statement.{statement}
 use Rattle.request.proofs.host.part.Tie as tie
@@ -13,7 +14,7 @@ returns : tie.Need-returns
 returns c =
     let s = c .before .before .before .before in
     let w = c .without4 .ensures in
-    record { parts = λ u b. parted4 (s .args .e) (s .pre) u _ (c .without4 .result) (means4 b (c .before .before .before .if1 .taken) (c .before .addr4 .ensures)) (w .0) (w .1) }
+    record { parts = λ u b. record { makes = λ n o. parted4 (placeOf n (s .args .e)) o u _ (c .without4 .result) (means4 b (c .before .before .before .if1 .taken) (c .before .addr4 .ensures)) (w .0) (w .1) } }
 
 addr6-requires : tie.Need-addr6-requires
 addr6-requires c κs = search needs
@@ -25,7 +26,7 @@ returns-2 : tie.Need-returns-2
 returns-2 c =
     let s = c .before .before .before .before in
     let w = c .without6 .ensures in
-    record { parts = λ u b. parted6 (s .args .e) (s .pre) u _ (c .without6 .result) (means6 b (c .before .before .before .if1 .left) (c .before .addr6 .ensures)) (w .0) (w .1) }
+    record { parts = λ u b. record { makes = λ n o. parted6 (placeOf n (s .args .e)) o u _ (c .without6 .result) (means6 b (c .before .before .before .if1 .left) (c .before .addr6 .ensures)) (w .0) (w .1) } }
 
 pub part-spec : {M : Type 1} → statement M
 part-spec =

@@ -17,7 +17,7 @@ returns : tie.Need-returns
 unfolding empty hostOf
 returns c =
     let s = c .before .before .before in
-    ap (λ (b : Bool). b && eqb (length (list6 (s .args .e .v6))) 0) (sym (not-true _ (c .if1 .taken)) ∙ c .before .empty4 .ensures)
+    λ n. ap (λ (b : Bool). b && eqb (length (list6 (s .args .e .v6))) 0) (sym (not-true _ (c .if1 .taken)) ∙ c .before .empty4 .ensures)
 
 empty6-requires : tie.Need-empty6-requires
 empty6-requires c κs = search needs
@@ -26,7 +26,7 @@ returns-2 : tie.Need-returns-2
 unfolding empty hostOf
 returns-2 c =
     let s = c .before .before .before .before .before in
-    c .empty6 .ensures ∙ ap (λ (b : Bool). b && eqb (length (list6 (s .args .e .v6))) 0) (sym (not-false _ (c .before .before .if1 .left)) ∙ c .before .before .before .empty4 .ensures)
+    λ n. c .empty6 .ensures ∙ ap (λ (b : Bool). b && eqb (length (list6 (s .args .e .v6))) 0) (sym (not-false _ (c .before .before .if1 .left)) ∙ c .before .before .before .empty4 .ensures)
 
 pub is-empty-spec : {M : Type 1} → statement M
 is-empty-spec = tie.close (tie.spec empty4-requires returns empty6-requires returns-2)

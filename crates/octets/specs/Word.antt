@@ -1,0 +1,8 @@
+-- Octets as one number. Only the contracts of inner functions cite this.
+use Prim.Native.Nat.{ℕ, _+_, _*_}
+use mathlib.Core.List.{List, [], _∷_}
+
+-- The first octet is the least significant.
+unfoldable pub value : List ℕ → ℕ
+value [] = 0
+value (x ∷ xs) = x + 256 * value xs

@@ -1,0 +1,34 @@
+use mathlib.Core.Path.{sym, _∙_}
+use Rattle.hosts.specs.Addresses.{four, six}
+use Rattle.request.proofs.HostLaws.{means4, means6, has-by}
+use Rattle.places.specs.Survey.{placeOf}
+use borrow.Author.Needs.{needs}
+use Rattle.request.proofs.host.has_address.Statement.{statement}
+use Rattle.request.proofs.host.has_address.Tie as tie
+
+addr4-requires : tie.Need-addr4-requires
+addr4-requires c κs = search needs
+
+has4-requires : tie.Need-has4-requires
+has4-requires c κs = search needs
+
+returns : tie.Need-returns
+returns c =
+    let s = c .before .before .before .before in
+    record { hasIs = λ n u b. c .has4 .ensures ∙ sym (has-by (placeOf n (s .args .e)) u four _ (means4 b (c .before .before .before .if1 .taken) (c .before .addr4 .ensures))) }
+
+addr6-requires : tie.Need-addr6-requires
+addr6-requires c κs = search needs
+
+has6-requires : tie.Need-has6-requires
+has6-requires c κs = search needs
+
+returns-2 : tie.Need-returns-2
+returns-2 c =
+    let s = c .before .before .before .before in
+    record { hasIs = λ n u b. c .has6 .ensures ∙ sym (has-by (placeOf n (s .args .e)) u six _ (means6 b (c .before .before .before .if1 .left) (c .before .addr6 .ensures))) }
+
+pub has-address-spec : {M : Type 1} → statement M
+has-address-spec =
+    tie.close
+    (tie.spec addr4-requires has4-requires returns addr6-requires has6-requires returns-2)

@@ -1,0 +1,25 @@
+use mathlib.Core.Path.{refl}
+use Rattle.places.specs.Meaning.{nameOf}
+use Rattle.zone.specs.Zone.{removeAddress}
+use Rattle.zone.specs.Meaning.{updateOf}
+use Rattle.request.specs.Inner.{requestOf}
+use Rattle.request.proofs.LentLaws.{promised-same}
+use borrow.Author.Needs.{needs}
+use Rattle.request.proofs.lent.jespurla_request_remove_address_lent.Statement.{statement}
+use Rattle.request.proofs.lent.jespurla_request_remove_address_lent.Tie as tie
+
+send-requires : tie.Need-send-requires
+send-requires c κs = search needs
+
+same-length : tie.Need-same-length
+same-length c = search needs
+
+returns : tie.Need-returns
+unfolding requestOf
+returns c =
+    let s = c .before .before .before .before .before .before .before .before .args in
+    let u = updateOf (s .t2) (s .dhcid) (s .family) (s .address) in
+    promised-same (s .octets .now) (nameOf (s .t2)) (s .family) 0 (requestOf 3 0 u) (removeAddress u) _ _ (λ x. refl) (c .before .before .send .ensures)
+
+pub jespurla-request-remove-address-lent-spec : {M : Type 1} → statement M
+jespurla-request-remove-address-lent-spec = tie.close (tie.spec send-requires same-length returns)

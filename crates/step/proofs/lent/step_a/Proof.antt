@@ -1,0 +1,47 @@
+use Rattle.step.proofs.LentLaws.{kept-in}
+use Rattle.step.proofs.StepLaws.{count-a, numbers-zero, step-at-a}
+use Rattle.job.specs.Jobs.{after}
+use Rattle.zone.specs.Zone.{requestA}
+use Rattle.lentplaces.specs.Decode.{zoneIn}
+use Rattle.zone.specs.Meaning.{updateOf}
+use native.Mathlib.Omega.{arith}
+use Prim.Native.Nat.{_+_, _<_}
+use borrow.Author.Needs.{needs}
+use Rattle.step.proofs.lent.step_a.Statement.{statement}
+use Rattle.step.proofs.lent.step_a.Tie as tie
+
+jespurla-request-a-lent-requires : tie.Need-jespurla-request-a-lent-requires
+jespurla-request-a-lent-requires c κs = search needs
+
+add-after-add : tie.Need-add-after-add
+add-after-add c =
+    let s = c .before .before .before .before .before .before in
+    let h : s .args .job .count < 6 = count-a (s .args .job) (s .pre .0) (s .pre .1) in
+    omega arith
+
+after-add-requires : tie.Need-after-add-requires
+after-add-requires c κs = search needs
+
+carried-requires : tie.Need-carried-requires
+carried-requires c κs = search needs
+
+same-length : tie.Need-same-length
+same-length c = search needs
+
+returns : tie.Need-returns
+returns c =
+    let s = c .before .before .before .before .before .before .before .before in
+    let z = s .args .octets .now in
+    let j = s .args .job in
+    kept-in z j 0 (requestA (updateOf (j .name) (j .dhcid) (j .family) (j .address))) (after (j .count + 1)) (c .before .before .before .before .before .jespurla-request-a-lent .result) (c .before .after-add .result) _ (c .carried .result) (s .pre .0) (numbers-zero j (s .pre .0)) (step-at-a (zoneIn z) j (s .pre .1)) (c .before .before .before .before .before .jespurla-request-a-lent .ensures) (c .before .after-add .ensures) (c .carried .ensures)
+
+pub step-a-spec : {M : Type 1} → statement M
+step-a-spec =
+    tie.close
+    (tie.spec
+    jespurla-request-a-lent-requires
+    add-after-add
+    after-add-requires
+    carried-requires
+    same-length
+    returns)

@@ -1,0 +1,39 @@
+use Rattle.step.proofs.LentLaws.{kept-in}
+use Rattle.step.proofs.StepLaws.{numbers-zero, step-at-first}
+use Rattle.job.specs.Jobs.{afterFirst}
+use Rattle.zone.specs.Zone.{removeAddress}
+use Rattle.lentplaces.specs.Decode.{zoneIn}
+use Rattle.zone.specs.Meaning.{updateOf}
+use borrow.Author.Needs.{needs}
+use Rattle.step.proofs.lent.step_first.Statement.{statement}
+use Rattle.step.proofs.lent.step_first.Tie as tie
+
+jespurla-request-remove-address-lent-requires :
+    tie.Need-jespurla-request-remove-address-lent-requires
+jespurla-request-remove-address-lent-requires c κs = search needs
+
+after-first-requires : tie.Need-after-first-requires
+after-first-requires c κs = search needs
+
+carried-requires : tie.Need-carried-requires
+carried-requires c κs = search needs
+
+same-length : tie.Need-same-length
+same-length c = search needs
+
+returns : tie.Need-returns
+returns c =
+    let s = c .before .before .before .before .before .before .before in
+    let z = s .args .octets .now in
+    let j = s .args .job in
+    kept-in z j 0 (removeAddress (updateOf (j .name) (j .dhcid) (j .family) (j .address))) afterFirst (c .before .before .before .before .jespurla-request-remove-address-lent .result) (c .before .after-first .result) _ (c .carried .result) (s .pre .0) (numbers-zero j (s .pre .0)) (step-at-first (zoneIn z) j (s .pre .1)) (c .before .before .before .before .jespurla-request-remove-address-lent .ensures) (c .before .after-first .ensures) (c .carried .ensures)
+
+pub step-first-spec : {M : Type 1} → statement M
+step-first-spec =
+    tie.close
+    (tie.spec
+    jespurla-request-remove-address-lent-requires
+    after-first-requires
+    carried-requires
+    same-length
+    returns)
