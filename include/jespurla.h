@@ -3,12 +3,13 @@
  * definitions that the promises cite stand in crates/NAME/specs, and docs/PROMISES.md lists them.
  *
  * What a caller owes:
- *  - A pointer that goes with a length points to as many octets, and is not null even where the
- *    length is 0.
- *  - A buffer that a call writes overlaps no other argument.
- *  - Stack: a zone, 23,936 octets, goes in and out by value, so the zone's calls and the job step
- *    want a stack of 256 KiB; 64 KiB are enough for the others. The tests run the job step and the
- *    lease query, which take the most of each, on stacks of these sizes.
+ *  - A pointer that goes with a length or a count points to as many octets or records, and is not
+ *    null even where there are none.
+ *  - A buffer that a call writes overlaps no other argument, and until the call has returned nobody
+ *    else writes what it was lent or reads what it writes.
+ *  - Stack: 16 KiB for the calls on a lent zone; 256 KiB for those that take a zone by value, since
+ *    its 23,936 octets go in and out; 64 KiB for the others. The tests run every call on a zone, and
+ *    of the others the lease query, which takes the most, on stacks of these sizes.
  * Everything else is the library's: every call takes every value of its arguments, returns, reads
  * and writes only what it was lent, keeps no state and needs no memory but the stack.
  *
@@ -177,8 +178,9 @@ jespurla_lease_answer jespurla_lease_query(jespurla_moment clock,
                                            uint8_t *reply, size_t reply_length);
 
 /*
- * A DNS zone by value. Every struct below is made of octets alone, so it has no gaps: an entry has 374
- * octets and a zone 23,936.
+ * A DNS zone. Every struct of it is made of octets alone, so it has no gaps: an entry has 374 octets
+ * and a zone 23,936. The calls on it come in two kinds: those that take it by value and hand the next
+ * one back, and, at the end of this file, those that it is lent to. Wherever a zone is kept, lend it.
  */
 
 /* A domain name as it stands in a message; octets from length on are not looked at. */
@@ -246,7 +248,7 @@ typedef struct {
 } jespurla_answered;
 
 /*
- * The requests of RFC 4703, each tested and done at once.
+ * The requests of RFC 4703 by value, each tested and done at once.
  *
  * zone: the zone as the call before returned it.
  * name: a full name. dhcid: who asks.
@@ -259,7 +261,8 @@ typedef struct {
  * that is not full, two equal names, a count over 4, two equal addresses of a name); 18 a family or
  * policy not listed; 11 a name that is not full.
  * Promise: the refusal and the answer are those that the rules give, and so are the names, owners and
- * addresses of the zone, which is of good form again; at which places they stand is left open.
+ * addresses of the zone, which is of good form again; at which places they stand is left open. Where
+ * by the rules nothing changes, the very zone comes back, every octet of it.
  */
 
 /*
@@ -346,10 +349,10 @@ jespurla_new_job jespurla_new_remove(jespurla_name name, jespurla_dhcid dhcid, u
                                      jespurla_address address);
 
 /*
- * One step of a job: the one request that its stage asks for, tested and done at once on the zone,
- * and where the answer leads the job. An add starts with A; YXDOMAIN leads to B, NXDOMAIN back to A;
- * it ends done, in conflict, without room, or, where its sixth request says NXDOMAIN, having given
- * up. A remove sends its two requests. A job that has ended changes nothing.
+ * One step of a job by value: the one request that its stage asks for, tested and done at once on the
+ * zone, and where the answer leads the job. An add starts with A; YXDOMAIN leads to B, NXDOMAIN back
+ * to A; it ends done, in conflict, without room, or, where its sixth request says NXDOMAIN, having
+ * given up. A remove sends its two requests. A job that has ended changes nothing.
  *
  * zone: the zone as the call before returned it, whoever made that call.
  * job: the job as a new job call or its own last step returned it.
@@ -359,11 +362,62 @@ jespurla_new_job jespurla_new_remove(jespurla_name name, jespurla_dhcid dhcid, u
  * listed, or a count that the stage can't have; 11 a name that is not full. A refused step returns
  * the very zone and job that it was handed.
  * Promise: the refusal, the job, and the names, owners and addresses of the zone are those that the
- * rules give. Of all the steps together: however the steps of any jobs are mixed, some order of the
- * whole jobs, adds without room and those that gave up left out, ends with the same zone and the same
- * answer to every add (docs/DEMAND-3.md).
+ * rules give; where by the rules the zone does not change, every octet of it comes back. Of all the
+ * steps together: however the steps of any jobs are mixed, some order of the whole jobs, adds without
+ * room and those that gave up left out, ends with the same zone and the same answer to every add
+ * (docs/DEMAND-3.md).
  */
 jespurla_stepped jespurla_job_step(jespurla_zone zone, jespurla_job job);
+
+/* What a request, and a step, on a lent zone answer. */
+typedef struct {
+    uint32_t refusal;
+    uint32_t answer;
+} jespurla_request_answer;
+
+typedef struct {
+    uint32_t refusal;
+    jespurla_job job;
+} jespurla_step_answer;
+
+/*
+ * The check, the requests and the step on a zone that is lent, which they read and change where it
+ * lies. These are the calls for a zone that is kept: no zone is copied, and they need little stack.
+ * They differ from the calls by value, whose arguments they take, in the following alone.
+ *
+ * zone, length: the zone and its size, sizeof(jespurla_zone). The check only reads it.
+ *
+ * Result: no zone comes back; what a request or a step has changed stands in the lent one.
+ * Refusal: 17 also where length is not 23,936; no octet is then looked at.
+ * Promise: the refusal, the answer and the job are those of the call by value on the zone that the
+ * octets hold, and so are the names, owners and addresses that they hold after it. At most one entry
+ * is written, and no octet of another changes. Every octet keeps its value where the call is refused
+ * or where by the rules nothing changes: a request that doesn't succeed, an address to delete that is
+ * not there, an address to add that is there with no other to delete, a job that has ended. Steps of
+ * both kinds may be mixed on one zone, and what is promised of all steps together holds of them.
+ */
+uint32_t jespurla_zone_check_lent(const jespurla_zone *zone, size_t length, jespurla_name name,
+                                  uint8_t family, uint8_t policy);
+
+jespurla_request_answer jespurla_request_a_lent(jespurla_zone *zone, size_t length,
+                                                jespurla_name name, jespurla_dhcid dhcid,
+                                                uint8_t family, jespurla_address address);
+
+jespurla_request_answer jespurla_request_b_lent(jespurla_zone *zone, size_t length,
+                                                jespurla_name name, jespurla_dhcid dhcid,
+                                                uint8_t family, jespurla_address address,
+                                                uint8_t policy);
+
+jespurla_request_answer jespurla_request_remove_address_lent(jespurla_zone *zone, size_t length,
+                                                             jespurla_name name,
+                                                             jespurla_dhcid dhcid, uint8_t family,
+                                                             jespurla_address address);
+
+jespurla_request_answer jespurla_request_remove_name_lent(jespurla_zone *zone, size_t length,
+                                                          jespurla_name name, jespurla_dhcid dhcid,
+                                                          uint8_t family, jespurla_address address);
+
+jespurla_step_answer jespurla_job_step_lent(jespurla_zone *zone, size_t length, jespurla_job job);
 
 #ifdef __cplusplus
 }

@@ -21,12 +21,30 @@ static const char *stage_text(uint8_t stage)
     }
 }
 
-/* One step: zone and job go in by value, and the next ones come back. */
-static void step(const char *who, jespurla_zone *zone, jespurla_job *job)
+/* One step on the zone where it lies. */
+static void step_lent(jespurla_zone *zone, jespurla_job *job)
+{
+    *job = jespurla_job_step_lent(zone, sizeof *zone, *job).job;
+}
+
+/* One step by value: zone and job go in, and the next ones come back. */
+static void step_by_value(jespurla_zone *zone, jespurla_job *job)
 {
     jespurla_stepped stepped = jespurla_job_step(*zone, *job);
     *zone = stepped.zone;
     *job = stepped.job;
+}
+
+/* The two jobs at the same name, the zone that both boxes share, and how they step on it. */
+typedef struct {
+    jespurla_zone zone;
+    jespurla_job x, y;
+    void (*one_step)(jespurla_zone *zone, jespurla_job *job);
+} shared;
+
+static void step(const char *who, shared *s, jespurla_job *job)
+{
+    s->one_step(&s->zone, job);
     printf("  %s: %s", who, stage_text(job->stage));
     if (job->count != 0) {
         printf(" (");
@@ -34,14 +52,8 @@ static void step(const char *who, jespurla_zone *zone, jespurla_job *job)
         printf(" sent)");
     }
     puts("");
-    print_zone(zone);
+    print_zone(&s->zone);
 }
-
-/* The two jobs at the same name, and the zone that both boxes share. */
-typedef struct {
-    jespurla_zone zone;
-    jespurla_job x, y;
-} shared;
 
 /* The name is X's, with one address; X is to remove it, and Y to add its own. */
 static void begin(shared *s)
@@ -52,8 +64,7 @@ static void begin(shared *s)
     jespurla_job add = jespurla_new_add(name, dhcid_of('X'), JESPURLA_FAMILY_4, here,
                                         JESPURLA_KEEP_OTHERS).job;
 
-    *s = (shared){ 0 };
-    step("box 1 adds for X", &s->zone, &add);
+    step("box 1 adds for X", s, &add);
     s->x = jespurla_new_remove(name, dhcid_of('X'), JESPURLA_FAMILY_4, here).job;
     s->y = jespurla_new_add(name, dhcid_of('Y'), JESPURLA_FAMILY_4, there,
                             JESPURLA_KEEP_OTHERS).job;
@@ -69,21 +80,22 @@ static int same_end(const shared *one, const shared *other)
 
 void show_jobs(void)
 {
-    static shared mixed, in_turn;
+    static shared mixed = { .one_step = step_lent };
+    static shared in_turn = { .one_step = step_by_value };
 
     puts("\nTwo boxes' jobs on one zone: X removes its only address, Y adds in between");
     begin(&mixed);
-    step("box 1 removes for X", &mixed.zone, &mixed.x);
-    step("box 2 adds for Y", &mixed.zone, &mixed.y);
-    step("box 2 goes on for Y", &mixed.zone, &mixed.y);
-    step("box 1 goes on for X", &mixed.zone, &mixed.x);
+    step("box 1 removes for X", &mixed, &mixed.x);
+    step("box 2 adds for Y", &mixed, &mixed.y);
+    step("box 2 goes on for Y", &mixed, &mixed.y);
+    step("box 1 goes on for X", &mixed, &mixed.x);
 
-    puts("\nThe same jobs one after the other: Y whole, then X");
+    puts("\nThe same jobs one after the other, by value: Y whole, then X");
     begin(&in_turn);
-    step("box 2 adds for Y", &in_turn.zone, &in_turn.y);
-    step("box 2 goes on for Y", &in_turn.zone, &in_turn.y);
-    step("box 1 removes for X", &in_turn.zone, &in_turn.x);
-    step("box 1 goes on for X", &in_turn.zone, &in_turn.x);
+    step("box 2 adds for Y", &in_turn, &in_turn.y);
+    step("box 2 goes on for Y", &in_turn, &in_turn.y);
+    step("box 1 removes for X", &in_turn, &in_turn.x);
+    step("box 1 goes on for X", &in_turn, &in_turn.x);
     puts(same_end(&mixed, &in_turn) ? "  the end is the same" : "  the end differs");
     puts("\nA new job of family 5");
     printf("  ");

@@ -1,4 +1,4 @@
-/* The requests on a zone, each tested and done at once. */
+/* The requests on a zone, each tested and done at once: lent, as a box keeps it, and by value. */
 #include "box.h"
 
 #include <stdio.h>
@@ -67,22 +67,20 @@ static const char *answer_text(uint32_t answer)
     }
 }
 
-/* Takes the zone over, and shows what was answered. */
-static void done(const char *what, jespurla_zone *zone, jespurla_answered answered)
+/* Shows what was answered, and the zone after it. */
+static void show(const char *what, const jespurla_zone *zone, uint32_t refusal, uint32_t answer)
 {
     printf("  %s: ", what);
-    if (answered.refusal != 0)
-        print_refusal(answered.refusal);
+    if (refusal != 0)
+        print_refusal(refusal);
     else
-        printf("%s", answer_text(answered.answer));
+        printf("%s", answer_text(answer));
     puts("");
-    *zone = answered.zone;
     print_zone(zone);
 }
 
-static void check(const char *what, const jespurla_zone *zone, jespurla_name name, uint8_t family)
+static void show_check(const char *what, uint32_t refusal)
 {
-    uint32_t refusal = jespurla_zone_check(*zone, name, family, JESPURLA_KEEP_OTHERS);
     printf("  %s: ", what);
     if (refusal == 0)
         printf("no refusal");
@@ -91,27 +89,71 @@ static void check(const char *what, const jespurla_zone *zone, jespurla_name nam
     puts("");
 }
 
-void show_requests(void)
+static const jespurla_address four = { { 10, 0, 0, 7 } };
+static const jespurla_address six = { { 0x20, 1, 0x0d, 0xb8, [15] = 7 } };
+
+/* The zone is kept here, and has changed when a call returns. */
+static jespurla_zone kept;
+
+static void show_lent(const char *what, jespurla_request_answer told)
 {
-    static jespurla_zone zone;
+    show(what, &kept, told.refusal, told.answer);
+}
+
+static void show_requests_lent(void)
+{
+    const size_t size = sizeof kept;
     jespurla_name name = name_of("\5pipe7\5stage", 13);
     jespurla_dhcid x = dhcid_of('X'), y = dhcid_of('Y');
-    jespurla_address four = { { 10, 0, 0, 7 } };
-    jespurla_address six = { { 0x20, 1, 0x0d, 0xb8, [15] = 7 } };
 
     puts("\nRequests on a zone (pipe7.stage.)");
-    check("check for an address of family 4", &zone, name, JESPURLA_FAMILY_4);
-    check("check for an address of family 5", &zone, name, 5);
-    done("A for X with 10.0.0.7", &zone, jespurla_request_a(zone, name, x, 4, four));
-    done("A for Y with 10.0.0.7", &zone, jespurla_request_a(zone, name, y, 4, four));
-    done("B for Y with 10.0.0.7", &zone,
-         jespurla_request_b(zone, name, y, 4, four, JESPURLA_KEEP_OTHERS));
-    done("B for X with 2001:db8::7, others stay", &zone,
-         jespurla_request_b(zone, name, x, 6, six, JESPURLA_KEEP_OTHERS));
-    done("B for X with 2001:db8::7, no other address stays", &zone,
-         jespurla_request_b(zone, name, x, 6, six, JESPURLA_ONLY_THIS));
-    done("second remove for X, too early", &zone,
-         jespurla_request_remove_name(zone, name, x, 6, six));
-    done("first remove for X", &zone, jespurla_request_remove_address(zone, name, x, 6, six));
-    done("second remove for X", &zone, jespurla_request_remove_name(zone, name, x, 6, six));
+    show_check("check for an address of family 4",
+               jespurla_zone_check_lent(&kept, size, name, 4, JESPURLA_KEEP_OTHERS));
+    show_check("check for an address of family 5",
+               jespurla_zone_check_lent(&kept, size, name, 5, JESPURLA_KEEP_OTHERS));
+    show_lent("A for X with 10.0.0.7", jespurla_request_a_lent(&kept, size, name, x, 4, four));
+    show_lent("A for Y with 10.0.0.7", jespurla_request_a_lent(&kept, size, name, y, 4, four));
+    show_lent("B for Y with 10.0.0.7",
+              jespurla_request_b_lent(&kept, size, name, y, 4, four, JESPURLA_KEEP_OTHERS));
+    show_lent("B for X with 2001:db8::7, others stay",
+              jespurla_request_b_lent(&kept, size, name, x, 6, six, JESPURLA_KEEP_OTHERS));
+    show_lent("B for X with 2001:db8::7, no other address stays",
+              jespurla_request_b_lent(&kept, size, name, x, 6, six, JESPURLA_ONLY_THIS));
+    show_lent("second remove for X, too early",
+              jespurla_request_remove_name_lent(&kept, size, name, x, 6, six));
+    show_lent("first remove for X",
+              jespurla_request_remove_address_lent(&kept, size, name, x, 6, six));
+    show_lent("second remove for X",
+              jespurla_request_remove_name_lent(&kept, size, name, x, 6, six));
+}
+
+/* The zone that a call hands back is the next call's. */
+static jespurla_answered show_by_value(const char *what, jespurla_answered answered)
+{
+    show(what, &answered.zone, answered.refusal, answered.answer);
+    return answered;
+}
+
+static void show_requests_by_value(void)
+{
+    static jespurla_answered last;
+    jespurla_name name = name_of("\5pipe7\5stage", 13);
+    jespurla_dhcid x = dhcid_of('X');
+
+    puts("\nRequests by value, each with the zone that the one before handed back");
+    show_check("check for an address of family 4",
+               jespurla_zone_check(last.zone, name, 4, JESPURLA_KEEP_OTHERS));
+    last = show_by_value("A for X with 10.0.0.7", jespurla_request_a(last.zone, name, x, 4, four));
+    last = show_by_value("B for X with 2001:db8::7, no other address stays",
+                         jespurla_request_b(last.zone, name, x, 6, six, JESPURLA_ONLY_THIS));
+    last = show_by_value("first remove for X",
+                         jespurla_request_remove_address(last.zone, name, x, 6, six));
+    last = show_by_value("second remove for X",
+                         jespurla_request_remove_name(last.zone, name, x, 6, six));
+}
+
+void show_requests(void)
+{
+    show_requests_lent();
+    show_requests_by_value();
 }

@@ -1,8 +1,10 @@
-//! The twelve calls. This module alone has unsafe code.
+//! The eighteen calls. This module alone has unsafe code.
+
+use std::mem::size_of;
 
 use crate::{
-    Address, Answered, Dhcid, Job, Lease, LeaseAnswer, Moment, Name, NewJob, Number,
-    ServerListAnswer, ServerListState, Stepped, Zone,
+    Address, Answered, Dhcid, Job, Lease, LeaseAnswer, Moment, Name, NewJob, Number, RequestAnswer,
+    ServerListAnswer, ServerListState, StepAnswer, Stepped, Zone,
 };
 
 /// The calls as include/jespurla.h declares them.
@@ -92,6 +94,53 @@ mod c {
         ) -> NewJob;
 
         pub fn jespurla_job_step(zone: Zone, job: Job) -> Stepped;
+
+        pub fn jespurla_zone_check_lent(
+            zone: *const Zone,
+            length: usize,
+            name: Name,
+            family: u8,
+            policy: u8,
+        ) -> u32;
+
+        pub fn jespurla_request_a_lent(
+            zone: *mut Zone,
+            length: usize,
+            name: Name,
+            dhcid: Dhcid,
+            family: u8,
+            address: Address,
+        ) -> RequestAnswer;
+
+        pub fn jespurla_request_b_lent(
+            zone: *mut Zone,
+            length: usize,
+            name: Name,
+            dhcid: Dhcid,
+            family: u8,
+            address: Address,
+            policy: u8,
+        ) -> RequestAnswer;
+
+        pub fn jespurla_request_remove_address_lent(
+            zone: *mut Zone,
+            length: usize,
+            name: Name,
+            dhcid: Dhcid,
+            family: u8,
+            address: Address,
+        ) -> RequestAnswer;
+
+        pub fn jespurla_request_remove_name_lent(
+            zone: *mut Zone,
+            length: usize,
+            name: Name,
+            dhcid: Dhcid,
+            family: u8,
+            address: Address,
+        ) -> RequestAnswer;
+
+        pub fn jespurla_job_step_lent(zone: *mut Zone, length: usize, job: Job) -> StepAnswer;
     }
 }
 
@@ -216,7 +265,7 @@ pub fn lease_query(
 }
 
 /// The refusal that a request with these would get, 0 for none. Where there is
-/// no policy, pass 0.
+/// no policy, pass 0. For a zone that is kept: [`zone_check_lent`].
 ///
 /// Refusals of this and of the four requests, the first that applies: 17 the
 /// zone breaks its form (a kind not listed, a name that is not full, two equal
@@ -224,8 +273,8 @@ pub fn lease_query(
 /// policy not listed; 11 a name that is not full. A refused request returns
 /// the very zone that it was handed, and answer 0. Any other returns the
 /// answer of the rules and a zone of good form with the names, owners and
-/// addresses that the rules give; a request that doesn't succeed changes
-/// nothing.
+/// addresses that the rules give. Where by the rules nothing changes, as where
+/// a request doesn't succeed, every octet of it is as it was.
 #[inline]
 pub fn zone_check(zone: &Zone, name: &Name, family: u8, policy: u8) -> u32 {
     // SAFETY: values in, a number out; no memory is lent.
@@ -317,7 +366,8 @@ pub fn new_remove(name: &Name, dhcid: &Dhcid, family: u8, address: &Address) -> 
 /// at once on the zone, and where the answer leads the job. An add starts with
 /// A; YXDOMAIN leads to B, NXDOMAIN back to A; it ends done, in conflict,
 /// without room, or, where its sixth request says NXDOMAIN, having given up. A
-/// remove sends its two requests. A job that has ended changes nothing.
+/// remove sends its two requests. A job that has ended changes nothing. On a
+/// zone that is kept: [`job_step_lent`].
 ///
 /// Refusals, the first that applies: 17 the zone breaks its form; 18 a stage,
 /// family or policy not listed, or a count that the stage can't have; 11 a
@@ -332,4 +382,115 @@ pub fn new_remove(name: &Name, dhcid: &Dhcid, family: u8, address: &Address) -> 
 pub fn job_step(zone: &Zone, job: &Job) -> Stepped {
     // SAFETY: values in, a value out; no memory is lent.
     unsafe { c::jespurla_job_step(*zone, *job) }
+}
+
+/// [`zone_check`] on a zone that is lent.
+///
+/// This, the requests and the step on a lent zone are the calls for a zone
+/// that is kept: no zone is copied, and they do with 16 KiB of stack. Each has
+/// the refusal, the answer and the job of the call by value, and leaves the
+/// names, owners and addresses that the rules give, where the zone lies.
+/// At most one entry is written, and no octet of another changes. Every octet
+/// keeps its value where the call is refused or where by the rules nothing
+/// changes: a request that doesn't succeed, an address to delete that is not
+/// there, an address to add that is there with no other to delete, a job that
+/// has ended.
+#[inline]
+pub fn zone_check_lent(zone: &Zone, name: &Name, family: u8, policy: u8) -> u32 {
+    // SAFETY: the pointer comes from a reference that outlives the call, with
+    // the size of the zone, which is octets alone.
+    unsafe { c::jespurla_zone_check_lent(zone, size_of::<Zone>(), *name, family, policy) }
+}
+
+/// [`request_a`] on a zone that is lent, as [`zone_check_lent`] says.
+#[inline]
+pub fn request_a_lent(
+    zone: &mut Zone,
+    name: &Name,
+    dhcid: &Dhcid,
+    family: u8,
+    address: &Address,
+) -> RequestAnswer {
+    // SAFETY: the pointer comes from a reference that outlives the call and is
+    // the only one, with the size of the zone; a zone is octets alone, so
+    // whatever is written there is one.
+    unsafe { c::jespurla_request_a_lent(zone, size_of::<Zone>(), *name, *dhcid, family, *address) }
+}
+
+/// [`request_b`] on a zone that is lent, as [`zone_check_lent`] says.
+#[inline]
+pub fn request_b_lent(
+    zone: &mut Zone,
+    name: &Name,
+    dhcid: &Dhcid,
+    family: u8,
+    address: &Address,
+    policy: u8,
+) -> RequestAnswer {
+    // SAFETY: as in request_a_lent.
+    unsafe {
+        c::jespurla_request_b_lent(
+            zone,
+            size_of::<Zone>(),
+            *name,
+            *dhcid,
+            family,
+            *address,
+            policy,
+        )
+    }
+}
+
+/// [`request_remove_address`] on a zone that is lent, as [`zone_check_lent`]
+/// says.
+#[inline]
+pub fn request_remove_address_lent(
+    zone: &mut Zone,
+    name: &Name,
+    dhcid: &Dhcid,
+    family: u8,
+    address: &Address,
+) -> RequestAnswer {
+    // SAFETY: as in request_a_lent.
+    unsafe {
+        c::jespurla_request_remove_address_lent(
+            zone,
+            size_of::<Zone>(),
+            *name,
+            *dhcid,
+            family,
+            *address,
+        )
+    }
+}
+
+/// [`request_remove_name`] on a zone that is lent, as [`zone_check_lent`] says.
+#[inline]
+pub fn request_remove_name_lent(
+    zone: &mut Zone,
+    name: &Name,
+    dhcid: &Dhcid,
+    family: u8,
+    address: &Address,
+) -> RequestAnswer {
+    // SAFETY: as in request_a_lent.
+    unsafe {
+        c::jespurla_request_remove_name_lent(
+            zone,
+            size_of::<Zone>(),
+            *name,
+            *dhcid,
+            family,
+            *address,
+        )
+    }
+}
+
+/// [`job_step`] on a zone that is lent, as [`zone_check_lent`] says. Steps of
+/// both kinds may be mixed on one zone, and what [`job_step`] promises of all
+/// steps together holds of them.
+#[inline]
+pub fn job_step_lent(zone: &mut Zone, job: &Job) -> StepAnswer {
+    // SAFETY: as in request_a_lent.
+    unsafe { c::jespurla_job_step_lent(zone, size_of::<Zone>(), *job) }
 }

@@ -83,7 +83,7 @@ impl NewJob {
     }
 }
 
-/// What a step answers.
+/// What a step by value answers.
 #[repr(C)]
 #[derive(Clone, Copy, PartialEq, Eq, Debug)]
 pub struct Stepped {
@@ -99,5 +99,22 @@ impl Stepped {
     /// The zone and the job after the step, or why it is refused.
     pub fn ok(&self) -> Result<(&Zone, &Job), Refusal> {
         Refusal::check(self.refusal).map(|()| (&self.zone, &self.job))
+    }
+}
+
+/// What a step on a lent zone answers.
+#[repr(C)]
+#[derive(Clone, Copy, PartialEq, Eq, Debug)]
+pub struct StepAnswer {
+    /// 0 for none.
+    pub refusal: u32,
+    /// The job after the step; the very job handed in where it is refused.
+    pub job: Job,
+}
+
+impl StepAnswer {
+    /// The job after the step, or why it is refused.
+    pub fn ok(self) -> Result<Job, Refusal> {
+        Refusal::check(self.refusal).map(|()| self.job)
     }
 }

@@ -3,9 +3,10 @@
 //! the players' names in a DNS zone that several boxes share (RFC 4703).
 //!
 //! The calls are those of `libjespurla.a`, each proved to meet its promise;
-//! this crate gives them slices for lent buffers and adds nothing else. Every
-//! call takes every value of its arguments, returns, reads and writes only
-//! what it was lent, keeps no state and needs no memory but the stack.
+//! this crate gives them slices for lent buffers, a reference for a lent zone,
+//! and adds nothing else. Every call takes every value of its arguments,
+//! returns, reads and writes only what it was lent, keeps no state and needs
+//! no memory but the stack.
 //!
 //! A refusal leaves every lent buffer as it was. Each answer carries its
 //! refusal and what comes back beside it, as in C; [`Number::ok`] and its
@@ -22,6 +23,11 @@
 //! let told = name_option_answer(b"\x05", b"\x05stage\x00", true, false, &mut reply);
 //! assert_eq!(told.ok(), Err(Refusal(10)));
 //! ```
+//!
+//! The calls on a zone come in two kinds: [`request_a`] and its likes take it
+//! by value and hand the next one back; [`request_a_lent`] and its likes
+//! change it where it lies. Wherever a zone is kept, lend it: no zone is then
+//! copied, and 16 KiB of stack are enough, where a zone by value wants 256 KiB.
 
 #![deny(unsafe_code, missing_docs)]
 
@@ -36,8 +42,10 @@ mod server_list;
 mod zone;
 
 pub use calls::{
-    flag_decision, job_step, lease_query, name_option_answer, new_add, new_remove, request_a,
-    request_b, request_remove_address, request_remove_name, server_list, zone_check,
+    flag_decision, job_step, job_step_lent, lease_query, name_option_answer, new_add, new_remove,
+    request_a, request_a_lent, request_b, request_b_lent, request_remove_address,
+    request_remove_address_lent, request_remove_name, request_remove_name_lent, server_list,
+    zone_check, zone_check_lent,
 };
 pub use job::*;
 pub use lease::*;

@@ -1,5 +1,5 @@
-//! A DNS zone by value. The structs up to [`Zone`] are made of octets alone,
-//! so they have no gaps.
+//! A DNS zone. The structs up to [`Zone`] are made of octets alone, so they
+//! have no gaps.
 
 use crate::Refusal;
 
@@ -155,7 +155,7 @@ pub const NXRRSET: u32 = 8;
 /// The answer where it would be the 65th name or the fifth address.
 pub const NO_ROOM: u32 = 256;
 
-/// What a request answers.
+/// What a request by value answers.
 #[repr(C)]
 #[derive(Clone, Copy, PartialEq, Eq, Debug)]
 pub struct Answered {
@@ -172,5 +172,22 @@ impl Answered {
     /// The answer and the zone after it, or why the request is refused.
     pub fn ok(&self) -> Result<(u32, &Zone), Refusal> {
         Refusal::check(self.refusal).map(|()| (self.answer, &self.zone))
+    }
+}
+
+/// What a request on a lent zone answers.
+#[repr(C)]
+#[derive(Clone, Copy, PartialEq, Eq, Debug)]
+pub struct RequestAnswer {
+    /// 0 for none.
+    pub refusal: u32,
+    /// One of the answers above; 0 where it is refused.
+    pub answer: u32,
+}
+
+impl RequestAnswer {
+    /// The answer, or why the request is refused.
+    pub fn ok(self) -> Result<u32, Refusal> {
+        Refusal::check(self.refusal).map(|()| self.answer)
     }
 }

@@ -1,4 +1,4 @@
-//! Each of the twelve calls once accepted and once refused, through the safe
+//! Each of the eighteen calls once accepted and once refused, through the safe
 //! functions.
 
 use jespurla::*;
@@ -109,22 +109,55 @@ fn requests_are_tested_and_done_at_once() {
     assert_eq!((refused.ok(), refused.zone), (Err(Refusal(11)), bare));
 }
 
-/// X removes its only address, Y adds in between.
+/// The requests above, each on the zone where it lies.
+#[test]
+fn requests_on_a_lent_zone_leave_what_those_by_value_hand_back() {
+    let (name, mut zone) = (pipe7(), Zone::EMPTY);
+    assert_eq!(zone_check_lent(&zone, &name, FAMILY_6, KEEP_OTHERS), 0);
+    assert_eq!(zone_check_lent(&zone, &name, 5, KEEP_OTHERS), 18);
+    let refused = request_a_lent(&mut zone, &Name::EMPTY, &X, FAMILY_6, &HERE);
+    assert_eq!((refused.ok(), zone), (Err(Refusal(11)), Zone::EMPTY));
+
+    let added = request_a(&zone, &name, &X, FAMILY_6, &HERE).zone;
+    let told = request_a_lent(&mut zone, &name, &X, FAMILY_6, &HERE);
+    assert_eq!((told.ok(), zone), (Ok(NOERROR), added));
+    let told = request_a_lent(&mut zone, &name, &Y, FAMILY_6, &HERE);
+    assert_eq!((told.ok(), zone), (Ok(YXDOMAIN), added));
+    let told = request_b_lent(&mut zone, &name, &Y, FAMILY_6, &HERE, ONLY_THIS);
+    assert_eq!((told.ok(), zone), (Ok(NXRRSET), added));
+    let told = request_b_lent(&mut zone, &name, &X, FAMILY_6, &HERE, 3);
+    assert_eq!((told.ok(), zone), (Err(Refusal(18)), added));
+    let told = request_remove_name_lent(&mut zone, &name, &X, FAMILY_6, &HERE);
+    assert_eq!((told.ok(), zone), (Ok(NXRRSET), added));
+
+    let moved = request_b(&zone, &name, &X, FAMILY_4, &HERE, ONLY_THIS).zone;
+    let told = request_b_lent(&mut zone, &name, &X, FAMILY_4, &HERE, ONLY_THIS);
+    assert_eq!((told.ok(), zone), (Ok(NOERROR), moved));
+    let bare = request_remove_address(&zone, &name, &X, FAMILY_4, &HERE).zone;
+    let told = request_remove_address_lent(&mut zone, &name, &X, FAMILY_4, &HERE);
+    assert_eq!((told.ok(), zone), (Ok(NOERROR), bare));
+    let told = request_remove_address_lent(&mut zone, &name, &X, 5, &HERE);
+    assert_eq!((told.ok(), zone), (Err(Refusal(18)), bare));
+    let told = request_remove_name_lent(&mut zone, &Name::EMPTY, &X, FAMILY_4, &HERE);
+    assert_eq!((told.ok(), zone), (Err(Refusal(11)), bare));
+    let told = request_remove_name_lent(&mut zone, &name, &X, FAMILY_4, &HERE);
+    assert_eq!(told.ok(), Ok(NOERROR));
+    assert!(zone.entries.iter().all(|entry| entry.kind == FREE));
+}
+
+/// X removes its only address, Y adds in between, with steps of both kinds.
 #[test]
 fn two_boxes_jobs_are_mixed() {
     let name = pipe7();
     let mut zone = request_a(&Zone::EMPTY, &name, &X, FAMILY_4, &HERE).zone;
-    let mut step = |job: &mut Job| {
-        let stepped = job_step(&zone, job);
-        assert_eq!(stepped.refusal, 0);
-        (zone, *job) = (stepped.zone, stepped.job);
-    };
     let mut x = new_remove(&name, &X, FAMILY_4, &HERE).ok().expect("sound");
     let mut y = new_add(&name, &Y, FAMILY_4, &HERE, KEEP_OTHERS).job;
-    step(&mut x);
-    step(&mut y);
-    step(&mut y);
-    step(&mut x);
+    x = job_step_lent(&mut zone, &x).ok().expect("sound");
+    y = job_step_lent(&mut zone, &y).ok().expect("sound");
+    let stepped = job_step(&zone, &y);
+    assert_eq!(stepped.ok(), Ok((&zone, &stepped.job)));
+    (zone, y) = (stepped.zone, stepped.job);
+    x = job_step_lent(&mut zone, &x).ok().expect("sound");
     assert!(x.has_ended() && y.has_ended());
     assert_eq!((x.stage, y.stage, y.count), (REMOVE_GONE, ADD_CONFLICT, 2));
     assert!(zone.entries.iter().all(|entry| entry.kind == FREE));
@@ -132,4 +165,8 @@ fn two_boxes_jobs_are_mixed() {
     assert_eq!((refused.ok(), refused.job), (Err(Refusal(18)), Job::BLANK));
     let refused = job_step(&zone, &Job::BLANK);
     assert_eq!((refused.refusal, refused.job), (18, Job::BLANK));
+    let before = zone;
+    let refused = job_step_lent(&mut zone, &Job::BLANK);
+    assert_eq!((refused.ok(), refused.job), (Err(Refusal(18)), Job::BLANK));
+    assert_eq!(zone, before);
 }
