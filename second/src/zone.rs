@@ -266,7 +266,7 @@ pub(crate) fn check_name(name: &Name) -> Result<(), u8> {
 }
 
 /// The refusals of a request in their order: 17, 18, 11.
-fn check_request(zone: &Zone, name: &Name, family: u8, policy: u8) -> Result<(), u8> {
+pub fn check_request(zone: &Zone, name: &Name, family: u8, policy: u8) -> Result<(), u8> {
     check(zone)?;
     check_numbers(family, policy)?;
     check_name(name)

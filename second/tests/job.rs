@@ -1,21 +1,21 @@
-//! Compares the product's jobs with the second program, looks for the serial
-//! order of demand 3, and steps what was sent to a real BIND.
+//! Compares the product's jobs, their steps by value and on a lent zone, with
+//! the second program, looks for the serial order of demand 3, and steps what
+//! was sent to a real BIND.
 
 mod common;
-
-use std::sync::mpsc::sync_channel;
-use std::thread;
 
 use common::bind;
 use common::faults::{self, first, has_another, number};
 use common::jobs::{self, called, Pool, Start};
-use common::product;
+use common::lent::{is_same, places_written};
+use common::product::{self, Way, WAYS};
 use common::random::{from_both_seeds, Random, FIXED_SEED};
 use common::requests::{Kind, Request};
+use common::stack::on_a_stack;
 use common::tally::Tally;
 use common::twin::Twin;
-use common::zones::{self, no_full_name};
-use jespurla::Stepped;
+use common::zones::{self, no_full_name, same_zone};
+use jespurla::StepAnswer;
 use second::job::{self, Job};
 use second::zone::{as_set, check, Entry, Zone, FREE};
 
@@ -25,8 +25,6 @@ const LISTS: usize = 50_000;
 const EACH: usize = 1_000;
 /// Lists whose steps run on a small stack.
 const SMALL_LISTS: usize = 2_000;
-/// The stack a step must do with.
-const SMALL_STACK: usize = 256 * 1024;
 /// Jobs in an order that is looked for, at the most.
 const ORDER_MAX: usize = 6;
 /// Steps drawn for one list, at the most.
@@ -35,6 +33,8 @@ const STEPS: usize = 60;
 /// Refusals in the order in which they are given.
 const ORDER: [u8; 3] = [17, 18, 11];
 
+/// What a case can be. Each is run by value and on a lent zone, so that every
+/// count is one of both.
 const KINDS: &[&str] = &[
     "18: family of a new add",
     "18: policy of a new add",
@@ -113,6 +113,21 @@ const KINDS: &[&str] = &[
     "order found, adds left out",
 ];
 
+/// What the steps on a lent zone gave and did, and which steps lists are of.
+const LENT: &[&str] = &[
+    "lent: refusal 17",
+    "lent: refusal 18",
+    "lent: refusal 11",
+    "lent: no refusal",
+    "lent: no place written",
+    "lent: one place written",
+    "list's step by value",
+    "list's step lent",
+    "order found, steps by value alone",
+    "order found, steps lent alone",
+    "order found, steps of both kinds",
+];
+
 /// A job of a list.
 #[derive(Clone, Copy)]
 struct Member {
@@ -166,6 +181,10 @@ struct List {
     zone: Both,
     members: Vec<Member>,
     steps: usize,
+    /// Those of the steps that the zone was lent to.
+    lent: usize,
+    /// The ways of which the next step takes one.
+    ways: &'static [Way],
 }
 
 impl List {
@@ -179,31 +198,31 @@ impl List {
     }
 }
 
-/// How the product's step is called.
-type Call = Box<dyn Fn(&jespurla::Zone, &jespurla::Job) -> Box<Stepped>>;
+/// How the product's step is called; the zone becomes the one that it left.
+type Call = fn(Way, &mut jespurla::Zone, &jespurla::Job) -> StepAnswer;
 
-/// The step on this thread.
-fn here() -> Call {
-    Box::new(|zone, job| Box::new(jespurla::job_step(zone, job)))
+/// The step on a thread with as little stack as it must do with.
+fn on_a_small_stack(way: Way, zone: &mut jespurla::Zone, job: &jespurla::Job) -> StepAnswer {
+    on_a_stack(way.stack(), || way.step(zone, job))
 }
 
-/// The step on a thread with a small stack.
-fn on_a_small_stack() -> Call {
-    let (send, given) = sync_channel::<Box<(jespurla::Zone, jespurla::Job)>>(1);
-    let (hand_back, stepped) = sync_channel(1);
-    let thread = thread::Builder::new().stack_size(SMALL_STACK);
-    let steps = move || {
-        for handed in given {
-            let (zone, job) = &*handed;
-            let stepped = Box::new(jespurla::job_step(zone, job));
-            hand_back.send(stepped).expect("the other side waits");
-        }
-    };
-    thread.spawn(steps).expect("a thread");
-    Box::new(move |zone, job| {
-        send.send(Box::new((*zone, *job))).expect("the thread runs");
-        stepped.recv().expect("the thread runs")
-    })
+/// What the product told of a step, and the zone that it left.
+struct Told {
+    answer: StepAnswer,
+    zone: jespurla::Zone,
+}
+
+impl Told {
+    /// Whether it told this; the job comes back octet for octet.
+    fn said(&self, refusal: u8, next: &Job) -> bool {
+        self.answer.refusal == u32::from(refusal) && self.answer.job == next.twin()
+    }
+
+    fn print(&self, title: &str) {
+        let (refusal, job) = (self.answer.refusal, self.answer.job);
+        println!("product {title} {refusal} {job:02x?}");
+        println!("which left {:02x?}", as_set(&self.zone.twin()));
+    }
 }
 
 /// A run from one seed: what it drew and what it counted.
@@ -217,7 +236,7 @@ impl Run {
     fn new(seed: u64, call: Call) -> Run {
         Run {
             random: Random::new(seed),
-            tally: Tally::new(&[zones::FAULTS, faults::AHEAD, KINDS]),
+            tally: Tally::new(&[zones::FAULTS, faults::AHEAD, KINDS, LENT]),
             call,
         }
     }
@@ -273,30 +292,57 @@ impl Run {
         self.make(&request, &faults);
     }
 
-    /// Steps a job with both programs. A refused zone comes back octet for
-    /// octet, another one is the same and of good form; the job comes back
-    /// octet for octet in any case.
-    fn step(&mut self, zone: &mut Both, job: &Job, faults: &[&str]) -> Job {
+    /// Steps a job with both programs. The product's two ways tell the same
+    /// and leave the same octets; of a lent zone, none is written where the
+    /// rules leave it as it is, as they do where the step is refused, else
+    /// those of one place. The zone that goes on is the one that `way` left.
+    fn step(&mut self, way: Way, zone: &mut Both, job: &Job, faults: &[&str]) -> Job {
+        let given = zone.clone();
         let mut next = *job;
         let refusal = job::step_in_place(&mut zone.second, &mut next).err();
         let refusal = refusal.unwrap_or(0);
-        let got = (self.call)(&zone.product, &job.twin());
-        let same = got.refusal == u32::from(refusal)
-            && got.job == next.twin()
-            && match refusal {
-                0 => zone.take(&got.zone),
-                _ => got.zone == zone.product,
-            };
+        let [by_value, lent] = WAYS.map(|way| self.ask(way, &given.product, job));
+        let written = places_written(&given.product, &lent.zone);
+        let changes = !same_zone(&given.second, &zone.second);
+        let left = match way {
+            Way::ByValue => &by_value.zone,
+            Way::Lent => &lent.zone,
+        };
+        let same = by_value.said(refusal, &next)
+            && lent.said(refusal, &next)
+            && is_same(&by_value.zone, &lent.zone)
+            && written <= usize::from(changes)
+            && (refusal != 0 || zone.take(left));
         if !same {
             println!("{job:02x?}");
             println!("second {refusal} {next:02x?}");
             println!("which left {:02x?}", as_set(&zone.second));
-            println!("product {} {:02x?}", got.refusal, got.job);
-            println!("which left {:02x?}", as_set(&got.zone.twin()));
+            by_value.print("by value");
+            lent.print("lent");
+            println!("{written} places of the lent zone written");
             panic!("the programs differ, seed {}", self.random.seed);
         }
         self.count(job, &next, refusal, faults);
+        self.count_lent(refusal, written);
         next
+    }
+
+    /// A step of the product's.
+    fn ask(&self, way: Way, given: &jespurla::Zone, job: &Job) -> Told {
+        let mut zone = *given;
+        let answer = (self.call)(way, &mut zone, &job.twin());
+        Told { answer, zone }
+    }
+
+    fn count_lent(&mut self, refusal: u8, written: usize) {
+        match refusal {
+            0 => self.tally.count("lent: no refusal"),
+            _ => self.tally.count(&format!("lent: refusal {refusal}")),
+        }
+        self.tally.count(match written {
+            0 => "lent: no place written",
+            _ => "lent: one place written",
+        });
     }
 
     fn count(&mut self, job: &Job, next: &Job, refusal: u8, faults: &[&str]) {
@@ -311,9 +357,15 @@ impl Run {
 
     /// A step of one of the list's jobs.
     fn own_step(&mut self, list: &mut List, at: usize) {
+        let way = self.random.pick(list.ways);
         list.steps += 1;
+        list.lent += usize::from(way == Way::Lent);
         let member = &mut list.members[at];
-        let now = self.step(&mut list.zone, &member.now, &[]);
+        let now = self.step(way, &mut list.zone, &member.now, &[]);
+        self.tally.count(match way {
+            Way::ByValue => "list's step by value",
+            Way::Lent => "list's step lent",
+        });
         if member.now.has_ended() {
             return self.tally.count("list's job after its end");
         }
@@ -351,7 +403,7 @@ impl Run {
             job.name = no_full_name(&mut self.random);
             faults.push("11: name");
         }
-        self.step(&mut Both::new(&zone), &job, &faults);
+        self.step(Way::Lent, &mut Both::new(&zone), &job, &faults);
     }
 
     /// The place of a job to step next, mostly one that hasn't ended.
@@ -369,7 +421,7 @@ impl Run {
             return self.refused_step(list, pool);
         }
         let job = self.loose_job(list, pool);
-        self.step(&mut list.zone.clone(), &job, &[]);
+        self.step(Way::Lent, &mut list.zone.clone(), &job, &[]);
     }
 
     /// Steps in any mixture, those of the start ahead; then some after the
@@ -416,6 +468,8 @@ impl Run {
             zone: Both::new(&start.zone),
             members,
             steps: 0,
+            lent: 0,
+            ways: self.random.pick(&[&WAYS, &WAYS, &WAYS[..1], &WAYS[1..]]),
         }
     }
 
@@ -433,7 +487,7 @@ impl Run {
         }
         if self.random.one_in(5) {
             let (zone, job) = pool.crowded(&mut self.random);
-            self.step(&mut Both::new(&zone), &job, &[]);
+            self.step(Way::Lent, &mut Both::new(&zone), &job, &[]);
         }
         let mut list = self.begin(&start);
         if list.has_alike() {
@@ -468,6 +522,11 @@ impl Run {
         };
         assert_eq!(order.len(), remaining);
         self.count_order(remaining, left_out);
+        self.tally.count(match list.lent {
+            0 => "order found, steps by value alone",
+            lent if lent == list.steps => "order found, steps lent alone",
+            _ => "order found, steps of both kinds",
+        });
     }
 
     fn count_order(&mut self, remaining: usize, left_out: usize) {
@@ -525,24 +584,14 @@ fn count_step(tally: &mut Tally, job: &Job, next: &Job) {
 
 #[test]
 fn lists_are_the_same() {
-    from_both_seeds(|seed| Run::new(seed, here()).whole());
+    from_both_seeds(|seed| Run::new(seed, Way::step).whole());
 }
 
 #[test]
 fn steps_do_with_a_small_stack() {
-    let mut run = Run::new(FIXED_SEED, on_a_small_stack());
+    let mut run = Run::new(FIXED_SEED, on_a_small_stack);
     while run.tally.cases < SMALL_LISTS {
         run.list();
-    }
-}
-
-/// One step of the product's.
-fn step(zone: &mut Zone, job: &mut Job) -> Result<(), u8> {
-    let got = jespurla::job_step(&zone.twin(), &job.twin());
-    (*zone, *job) = (got.zone.twin(), got.job.twin());
-    match got.refusal {
-        0 => Ok(()),
-        refusal => Err(refusal as u8),
     }
 }
 
@@ -552,5 +601,16 @@ fn the_products_jobs_send_what_bind_was_sent() {
         Ok(job) => Ok(job.twin()),
         Err(refusal) => Err(refusal.0 as u8),
     };
-    assert_eq!(bind::replay_jobs(make, step), bind::ALL);
+    for way in WAYS {
+        let step = |zone: &mut Zone, job: &mut Job| {
+            let mut left = zone.twin();
+            let got = way.step(&mut left, &job.twin());
+            (*zone, *job) = (left.twin(), got.job.twin());
+            match got.refusal {
+                0 => Ok(()),
+                refusal => Err(refusal as u8),
+            }
+        };
+        assert_eq!(bind::replay_jobs(make, step), bind::ALL, "{way:?}");
+    }
 }

@@ -2,8 +2,6 @@
 
 mod common;
 
-use std::thread;
-
 use common::faults::{first, has_another, number};
 use common::leases::{self, Client};
 use common::lent::afresh;
@@ -12,6 +10,7 @@ use common::product::lease_answer;
 use common::queries::Query;
 use common::random::{from_both_seeds, Random};
 use common::run::Run;
+use common::stack::on_a_stack;
 use common::tally::Tally;
 use common::twin::Twin;
 use jespurla::{LeaseAnswer, Moment};
@@ -267,7 +266,9 @@ impl Run<2> {
             cases
                 .iter()
                 .for_each(|_| self.tally.count("on a small stack"));
-            on_small_stack(|| cases.iter().for_each(|case| self.compare(tables, case)));
+            on_a_stack(SMALL_STACK, || {
+                cases.iter().for_each(|case| self.compare(tables, case))
+            });
         } else {
             cases.iter().for_each(|case| self.compare(tables, case));
         }
@@ -313,15 +314,6 @@ impl Run<2> {
         let title = format!("seed {}, lease queries", self.random.seed);
         self.tally.report(&title, QUERIES, EACH);
     }
-}
-
-/// Runs `work` on a thread of its own with little stack.
-fn on_small_stack(work: impl FnOnce() + Send) {
-    thread::scope(|scope| {
-        let builder = thread::Builder::new().stack_size(SMALL_STACK);
-        let started = builder.spawn_scoped(scope, work).expect("a thread");
-        started.join().expect("the thread ends well");
-    });
 }
 
 fn count_refusal(tally: &mut Tally, faults: &[&str], fault: &str) {

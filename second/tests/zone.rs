@@ -1,16 +1,18 @@
-//! Compares the product's zone requests with the second program, and with
-//! what a real BIND answered.
+//! Compares the product's zone requests, by value and on a lent zone, with the
+//! second program, and with what a real BIND answered.
 
 mod common;
 
 use common::bind;
 use common::faults::{self, first, number};
-use common::product;
+use common::lent::{is_same, places_written};
+use common::product::{self, Way, WAYS};
 use common::random::{from_both_seeds, Random};
 use common::requests::{self, Kind, Reply, Request};
 use common::tally::Tally;
 use common::twin::Twin;
 use common::zones::{self, no_full_name, same_zone, Stock};
+use jespurla::RequestAnswer;
 use second::zone::{as_set, check, Entry, Zone, FREE, HELD, PLACES, STATIC};
 
 /// Requests compared by one run, at the least.
@@ -21,6 +23,8 @@ const EACH: usize = 1_000;
 /// Refusals in the order in which they are given.
 const ORDER: [u8; 3] = [17, 18, 11];
 
+/// What a case can be. Each is run by value and on a lent zone, so that every
+/// count is one of both.
 const KINDS: &[&str] = &[
     "18: family",
     "18: policy",
@@ -58,10 +62,77 @@ const KINDS: &[&str] = &[
     "second remove: kept, both families",
 ];
 
+/// What the calls on a lent zone gave and did.
+const LENT: &[&str] = &[
+    "lent: refusal 17",
+    "lent: refusal 18",
+    "lent: refusal 11",
+    "lent: answer 0",
+    "lent: answer 3",
+    "lent: answer 6",
+    "lent: answer 8",
+    "lent: answer 256",
+    "lent: no place written",
+    "lent: one place written",
+];
+
 /// A request and the faults planted in it and its zone.
 struct Case {
     request: Request,
     faults: Vec<&'static str>,
+}
+
+/// What the product told of a request, and the zone that it left.
+struct Told {
+    answer: RequestAnswer,
+    checked: u32,
+    zone: jespurla::Zone,
+}
+
+impl Told {
+    fn new(way: Way, given: &jespurla::Zone, request: &Request) -> Told {
+        let mut zone = *given;
+        let checked = way.check(&zone, request);
+        assert!(is_same(&zone, given), "a check writes nothing");
+        let answer = way.send(&mut zone, request);
+        Told {
+            answer,
+            checked,
+            zone,
+        }
+    }
+
+    /// Whether it is what the second program said. A refused zone comes back
+    /// octet for octet, another one is the same and of good form.
+    fn agrees(&self, given: &jespurla::Zone, request: &Request, said: &Said) -> bool {
+        let (refusal, answer) = (self.answer.refusal, self.answer.answer);
+        let same = match said.reply {
+            Err(number) => {
+                (refusal, answer) == (u32::from(number), 0) && is_same(&self.zone, given)
+            }
+            Ok(reply) => {
+                let left = self.zone.twin();
+                (refusal, product::reply(request.kind, answer)) == (0, Some(reply))
+                    && check(&left) == Ok(())
+                    && same_zone(&left, &said.next)
+            }
+        };
+        same && self.checked == refusal
+    }
+}
+
+/// What the second program answered, and the zone that it left.
+struct Said {
+    reply: Result<Reply, u8>,
+    next: Zone,
+}
+
+impl Said {
+    fn new(zone: &Zone, request: &Request) -> Said {
+        let mut next = zone.clone();
+        let reply = requests::send(&mut next, request);
+        Said { reply, next }
+    }
 }
 
 /// A run from one seed: what it drew and what it counted.
@@ -74,39 +145,47 @@ impl Run {
     fn new(seed: u64) -> Run {
         Run {
             random: Random::new(seed),
-            tally: Tally::new(&[zones::FAULTS, faults::AHEAD, KINDS]),
+            tally: Tally::new(&[zones::FAULTS, faults::AHEAD, KINDS, LENT]),
         }
     }
 
-    /// Runs both programs on one request. A refused zone comes back octet
-    /// for octet, another one is the same and of good form. The zone for the
-    /// next request is the product's.
+    /// Runs both programs on one request. The product's two ways tell the
+    /// same and leave the same octets; of a lent zone, none is written where
+    /// the rules leave it as it is, else those of one place. The zone for
+    /// the next request is the product's.
     fn compare(&mut self, zone: &Zone, case: &Case) -> Zone {
         let request = &case.request;
-        let mut next = zone.clone();
-        let expected = requests::send(&mut next, request);
+        let said = Said::new(zone, request);
         let given = zone.twin();
-        let got = product::send(&given, request);
-        let left = got.zone.twin();
-        let same = match expected {
-            Err(refusal) => {
-                (got.refusal, got.answer) == (u32::from(refusal), 0) && got.zone == given
-            }
-            Ok(reply) => {
-                (got.refusal, product::reply(request.kind, got.answer)) == (0, Some(reply))
-                    && check(&left) == Ok(())
-                    && same_zone(&left, &next)
-            }
-        };
-        let checked = product::check(&given, request);
-        if !same || checked != got.refusal {
-            let (refusal, answer) = (got.refusal, got.answer);
-            println!("second {expected:?}, product {refusal} {answer}, check {checked}");
+        let [by_value, lent] = WAYS.map(|way| Told::new(way, &given, request));
+        let written = places_written(&given, &lent.zone);
+        let same = by_value.agrees(&given, request, &said)
+            && lent.answer == by_value.answer
+            && lent.checked == by_value.checked
+            && is_same(&lent.zone, &by_value.zone)
+            && written <= usize::from(!same_zone(zone, &said.next));
+        if !same {
+            println!("second {:?}", said.reply);
+            println!("by value {:?}, check {}", by_value.answer, by_value.checked);
+            println!("lent {:?}, check {}", lent.answer, lent.checked);
+            println!("{written} places of the lent zone written");
             println!("{request:02x?} on {:02x?}", as_set(zone));
             panic!("the programs differ, seed {}", self.random.seed);
         }
-        self.count(zone, case, expected);
-        left
+        self.count(zone, case, said.reply);
+        self.count_lent(&lent.answer, written);
+        lent.zone.twin()
+    }
+
+    fn count_lent(&mut self, told: &RequestAnswer, written: usize) {
+        match told.refusal {
+            0 => self.tally.count(&format!("lent: answer {}", told.answer)),
+            refusal => self.tally.count(&format!("lent: refusal {refusal}")),
+        }
+        self.tally.count(match written {
+            0 => "lent: no place written",
+            _ => "lent: one place written",
+        });
     }
 
     fn count(&mut self, zone: &Zone, case: &Case, expected: Result<Reply, u8>) {
@@ -277,13 +356,16 @@ fn requests_are_the_same() {
 
 #[test]
 fn the_product_answers_as_bind_did() {
-    let agreed = bind::replay(|zone, request| {
-        let got = product::send(&zone.twin(), request);
-        *zone = got.zone.twin();
-        match got.refusal {
-            0 => Ok(product::reply(request.kind, got.answer).expect("a listed answer")),
-            refusal => Err(refusal as u8),
-        }
-    });
-    assert_eq!(agreed, bind::ALL);
+    for way in WAYS {
+        let agreed = bind::replay(|zone, request| {
+            let mut left = zone.twin();
+            let got = way.send(&mut left, request);
+            *zone = left.twin();
+            match got.refusal {
+                0 => Ok(product::reply(request.kind, got.answer).expect("a listed answer")),
+                refusal => Err(refusal as u8),
+            }
+        });
+        assert_eq!(agreed, bind::ALL, "{way:?}");
+    }
 }

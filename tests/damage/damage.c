@@ -19,6 +19,7 @@ static void pass(side chosen)
         turn_leases();
         turn_zones();
         turn_jobs();
+        turn_lent();
     }
 }
 

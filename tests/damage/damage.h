@@ -18,7 +18,7 @@ void damage_octets(void *octets, size_t length);
 
 /* lend.c: memory that ends, or starts, at an unreadable page. */
 typedef enum { AT_THE_END, AT_THE_START } side;
-typedef enum { VALUE, SUFFIX, AREA, TABLE, QUERY, REPLY, PLACES } place;
+typedef enum { VALUE, SUFFIX, AREA, TABLE, QUERY, REPLY, ZONE, PLACES } place;
 void lend_open(void);
 void lend_choose(side chosen);
 /* A lent copy of the octets; at most LEND_MOST. */
@@ -26,6 +26,8 @@ void lend_choose(side chosen);
 uint8_t *lend(place where, const void *octets, size_t length);
 /* Fails where an octet from `kept` on, or a guard octet beside the lent ones, is not as it was. */
 void lend_check(place where, size_t kept);
+/* Fails where more than one row of so many octets, or a guard octet, is not as it was. */
+void lend_check_rows(place where, size_t row);
 
 /* tally.c: what the calls gave. */
 typedef enum {
@@ -41,6 +43,12 @@ typedef enum {
     NEW_ADD,
     NEW_REMOVE,
     JOB_STEP,
+    ZONE_CHECK_LENT,
+    REQUEST_A_LENT,
+    REQUEST_B_LENT,
+    REMOVE_ADDRESS_LENT,
+    REMOVE_NAME_LENT,
+    JOB_STEP_LENT,
     CALLS
 } call;
 /* Ends the program where what has to hold does not. */
@@ -66,11 +74,27 @@ void turn_servers(void);
 void turn_leases(void);
 void turn_zones(void);
 void turn_jobs(void);
+void turn_lent(void);
 
 /* zones.c: a zone that is sound mostly, and the refusals of what reads one. */
 extern const uint32_t zone_refusals[];
 const jespurla_zone *some_zone(void);
 /* Takes over the zone that an unrefused call has left, which must be sound. */
 void leave_zone(const jespurla_zone *zone);
+/* What a request carries; the policy is B's. */
+typedef struct {
+    jespurla_name name;
+    jespurla_dhcid dhcid;
+    jespurla_address address;
+    uint8_t family, policy;
+} request;
+request some_request(call which);
+/* Sends it by value; `which` is one of the four. */
+jespurla_answered send_by_value(call which, const jespurla_zone *zone, const request *q);
+
+/* jobs.c: one of a few jobs under way, at times damaged; and what becomes of it. */
+#define JOBS 8
+jespurla_job some_job(size_t at);
+void leave_job(size_t at, const jespurla_job *job);
 
 #endif

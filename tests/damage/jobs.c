@@ -1,10 +1,9 @@
-/* New jobs and job steps. */
+/* New jobs, and job steps by value. */
 #include "damage.h"
 
 #include <string.h>
 
 /* Jobs under way, as the new job calls and the steps gave them. */
-#define JOBS 8
 static jespurla_job jobs[JOBS];
 
 /* A new job in one of the places, an add or a remove. */
@@ -27,8 +26,8 @@ static void turn_new(call which)
         jobs[random_below(JOBS)] = made.job;
 }
 
-/* One of the jobs, at times with its numbers or a few octets changed. */
-static jespurla_job some_job(size_t at)
+/* At times its numbers or a few octets are changed. */
+jespurla_job some_job(size_t at)
 {
     jespurla_job job = jobs[at];
     if (one_in(16))
@@ -40,6 +39,11 @@ static jespurla_job some_job(size_t at)
     if (one_in(64))
         random_fill(&job, sizeof job);
     return job;
+}
+
+void leave_job(size_t at, const jespurla_job *job)
+{
+    jobs[at] = *job;
 }
 
 static void turn_step(void)
@@ -56,7 +60,7 @@ static void turn_step(void)
         must(memcmp(&stepped.zone, zone, sizeof *zone) == 0, "a refused zone comes back changed");
         return;
     }
-    jobs[at] = stepped.job;
+    leave_job(at, &stepped.job);
     leave_zone(&stepped.zone);
 }
 

@@ -62,11 +62,26 @@ uint8_t *lend(place where, const void *octets, size_t length)
     return p->lent;
 }
 
+static void check_guard(const pages *p)
+{
+    must(memcmp(guard_of(p), p->guard, GUARD) == 0, "an octet beside the lent ones was written");
+}
+
 void lend_check(place where, size_t kept)
 {
     const pages *p = &all[where];
     must(kept <= p->length, "more was written than was lent");
     must(memcmp(p->lent + kept, p->copy + kept, p->length - kept) == 0,
          "an octet was written that keeps its value");
-    must(memcmp(guard_of(p), p->guard, GUARD) == 0, "an octet beside the lent ones was written");
+    check_guard(p);
+}
+
+void lend_check_rows(place where, size_t row)
+{
+    const pages *p = &all[where];
+    int written = 0;
+    for (size_t at = 0; at + row <= p->length; at += row)
+        written += memcmp(p->lent + at, p->copy + at, row) != 0;
+    must(written <= 1, "more than one row was written");
+    check_guard(p);
 }

@@ -8,6 +8,8 @@ static const char *const names[CALLS] = {
     "flag_decision", "name_option_answer", "server_list", "lease_query",
     "zone_check", "request_a", "request_b", "request_remove_address",
     "request_remove_name", "new_add", "new_remove", "job_step",
+    "zone_check_lent", "request_a_lent", "request_b_lent", "request_remove_address_lent",
+    "request_remove_name_lent", "job_step_lent",
 };
 
 typedef struct {
@@ -67,10 +69,10 @@ bool tally_report(void)
 {
     bool whole = true;
     unsigned long calls = 0;
-    printf("%-24s%10s%10s\n", "call", "answered", "refused");
+    printf("%-28s%10s%10s\n", "call", "answered", "refused");
     for (int i = 0; i < CALLS; i++) {
         const counts *t = &tally[i];
-        printf("%-24s%10lu%10lu\n", names[i], t->answered, t->refused);
+        printf("%-28s%10lu%10lu\n", names[i], t->answered, t->refused);
         print_numbers("answers ", t->kinds, 257);
         print_numbers("refusals", t->refusals, 32);
         if (!is_whole(t))

@@ -1,4 +1,4 @@
-/* The zone check and the four requests. */
+/* The zone check and the four requests, by value. */
 #include "damage.h"
 
 #include <string.h>
@@ -65,17 +65,23 @@ void leave_zone(const jespurla_zone *zone)
     sound = *zone;
 }
 
-/* One of the four requests. */
-static jespurla_answered send(call which, jespurla_name name, uint8_t family, uint8_t policy)
+request some_request(call which)
 {
-    jespurla_dhcid dhcid = some_dhcid();
-    jespurla_address address = some_address();
+    request q = { .name = some_zone_name(), .dhcid = some_dhcid(), .address = some_address() };
+    q.family = some_family();
+    q.policy = which == REQUEST_B ? some_policy() : 0;
+    return q;
+}
+
+jespurla_answered send_by_value(call which, const jespurla_zone *zone, const request *q)
+{
     switch (which) {
-    case REQUEST_A: return jespurla_request_a(given, name, dhcid, family, address);
-    case REQUEST_B: return jespurla_request_b(given, name, dhcid, family, address, policy);
+    case REQUEST_A: return jespurla_request_a(*zone, q->name, q->dhcid, q->family, q->address);
+    case REQUEST_B:
+        return jespurla_request_b(*zone, q->name, q->dhcid, q->family, q->address, q->policy);
     case REMOVE_ADDRESS:
-        return jespurla_request_remove_address(given, name, dhcid, family, address);
-    default: return jespurla_request_remove_name(given, name, dhcid, family, address);
+        return jespurla_request_remove_address(*zone, q->name, q->dhcid, q->family, q->address);
+    default: return jespurla_request_remove_name(*zone, q->name, q->dhcid, q->family, q->address);
     }
 }
 
@@ -89,12 +95,11 @@ static void turn_request(call which)
 {
     static jespurla_answered answered;
     const jespurla_zone *zone = some_zone();
-    jespurla_name name = some_zone_name();
-    uint8_t family = some_family(), policy = which == REQUEST_B ? some_policy() : 0;
+    request q = some_request(which);
 
-    answered = send(which, name, family, policy);
+    answered = send_by_value(which, zone, &q);
     tally_count(which, answered.refusal, answered.answer, zone_refusals);
-    must(check(zone, &name, family, policy) == answered.refusal, "check and request disagree");
+    must(check(zone, &q.name, q.family, q.policy) == answered.refusal, "check and request disagree");
     if (answered.refusal != 0) {
         must(answered.answer == 0, "an answer beside a refusal");
         must(memcmp(&answered.zone, zone, sizeof *zone) == 0, "a refused zone comes back changed");

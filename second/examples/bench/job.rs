@@ -74,13 +74,19 @@ fn case(rows: &mut Table, title: &str, start: &Zone, request: &Request) {
 /// The second program's new job calls behind the product's interface.
 #[allow(improper_ctypes_definitions)]
 #[inline(never)]
-extern "C" fn second_add(n: Name, d: [u8; 35], family: u8, a: [u8; 16], policy: u8) -> Option<Job> {
+pub extern "C" fn second_add(
+    n: Name,
+    d: [u8; 35],
+    family: u8,
+    a: [u8; 16],
+    policy: u8,
+) -> Option<Job> {
     job::new_add(&n, &d, family, &a, policy).ok()
 }
 
 #[allow(improper_ctypes_definitions)]
 #[inline(never)]
-extern "C" fn second_remove(n: Name, d: [u8; 35], family: u8, a: [u8; 16]) -> Option<Job> {
+pub extern "C" fn second_remove(n: Name, d: [u8; 35], family: u8, a: [u8; 16]) -> Option<Job> {
     job::new_remove(&n, &d, family, &a).ok()
 }
 

@@ -5,8 +5,11 @@
 mod common;
 mod job;
 mod lease_query;
+mod lent;
 mod name_option;
+mod second_lent;
 mod server_list;
+mod steady;
 mod timer;
 mod zone;
 mod zones;
@@ -19,6 +22,7 @@ fn main() {
         lease_query::run(&mut table);
         zone::run(&mut table);
         job::run(&mut table);
+        lent::run(&mut table);
     }
     table.print();
 }

@@ -118,13 +118,13 @@ impl Table {
         );
         println!("lent: on references, where that interface hands structs in and back by value.");
         println!(
-            "{:<50}{:>9}{:>9}{:>7}{:>9}{:>7}",
+            "{:<54}{:>9}{:>9}{:>7}{:>9}{:>7}",
             "call", "ours", "second", "ratio", "lent", "ratio"
         );
         for row in self.rows {
             let (ratio, lent_ratio) = (row.ratio(&row.second), row.ratio(&row.lent));
             let (ours, second) = (median(row.ours), median(row.second));
-            print!("{:<50}{ours:>9.1}{second:>9.1}{ratio:>7.2}", row.name);
+            print!("{:<54}{ours:>9.1}{second:>9.1}{ratio:>7.2}", row.name);
             if row.lent.is_empty() {
                 println!();
             } else {

@@ -29,9 +29,16 @@ pub fn long(number: usize) -> Name {
     Name::new(&octets).expect("255 octets")
 }
 
+/// One of the 64 numbers for each of them, in no order.
+pub fn shuffled(number: usize) -> usize {
+    let mixed = (number * 37 + 11) % 64;
+    let mixed = (mixed ^ mixed >> 3) * 29 % 64;
+    mixed ^ mixed >> 2
+}
+
 /// A zone of `count` names that the owner holds, with the addresses of
 /// `entry`.
-pub fn zone_of(count: usize, name: fn(usize) -> Name, entry: Entry) -> Zone {
+pub fn zone_of(count: usize, name: impl Fn(usize) -> Name, entry: Entry) -> Zone {
     let mut zone = Zone::EMPTY;
     for (number, place) in zone.entries[..count].iter_mut().enumerate() {
         *place = Entry {

@@ -1,8 +1,13 @@
-//! Memory that is lent to both programs.
+//! Memory that is lent to both programs, and the zones that are lent to the
+//! product.
 
 use std::array;
 use std::hint::black_box;
 use std::mem;
+use std::ptr;
+use std::slice;
+
+use jespurla::{Entry, Zone};
 
 use super::random::Random;
 
@@ -13,6 +18,29 @@ const GUARD: usize = 16;
 /// lent to be read has not been written; here it has to look.
 pub fn afresh<T: ?Sized>(memory: &T) -> &T {
     black_box(memory)
+}
+
+/// The octets of a zone or of a place of it.
+fn octets<T: OfOctets>(whole: &T) -> &[u8] {
+    // SAFETY: the struct is made of octets alone, without gaps.
+    unsafe { slice::from_raw_parts(ptr::from_ref(whole).cast(), mem::size_of::<T>()) }
+}
+
+/// The structs that are made of octets alone.
+trait OfOctets {}
+impl OfOctets for Entry {}
+impl OfOctets for Zone {}
+
+/// Whether two zones are alike to the last octet.
+pub fn is_same(left: &Zone, right: &Zone) -> bool {
+    octets(afresh(left)) == octets(afresh(right))
+}
+
+/// How many places of a zone have an octet that is not as it was.
+pub fn places_written(before: &Zone, after: &Zone) -> usize {
+    let places = before.entries.iter().zip(&afresh(after).entries);
+    let written = places.filter(|(before, after)| octets(*before) != octets(*after));
+    written.count()
 }
 
 /// Two memories of N lent parts each, between guards.

@@ -15,6 +15,7 @@ pub mod queries;
 pub mod random;
 pub mod requests;
 pub mod run;
+pub mod stack;
 pub mod tally;
 pub mod twin;
 pub mod zones;

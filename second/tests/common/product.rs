@@ -1,10 +1,80 @@
 //! Requests sent to the product, and the second program's answers in the
 //! product's numbers.
 
-use jespurla::{Address, Answered, Dhcid, LeaseAnswer, NewJob, Number, Zone};
+use jespurla::{
+    Address, Answered, Dhcid, Job, LeaseAnswer, NewJob, Number, RequestAnswer, StepAnswer, Zone,
+};
 
 use super::requests::{Kind, Reply, Request};
 use super::twin::Twin;
+
+/// How the product gets a zone.
+#[derive(Clone, Copy, PartialEq, Eq, Debug)]
+pub enum Way {
+    /// It is handed in and back.
+    ByValue,
+    /// It is changed where it lies.
+    Lent,
+}
+
+pub const WAYS: [Way; 2] = [Way::ByValue, Way::Lent];
+
+impl Way {
+    /// Sends a request; the zone becomes the one that it left.
+    pub fn send(self, zone: &mut Zone, request: &Request) -> RequestAnswer {
+        match self {
+            Way::ByValue => replace_by_sent(zone, request),
+            Way::Lent => send_lent(zone, request),
+        }
+    }
+
+    /// The refusal a request would get, 0 for none.
+    pub fn check(self, zone: &Zone, request: &Request) -> u32 {
+        match self {
+            Way::ByValue => check(zone, request),
+            Way::Lent => check_lent(zone, request),
+        }
+    }
+
+    /// Steps a job; the zone becomes the one that the step left.
+    pub fn step(self, zone: &mut Zone, job: &Job) -> StepAnswer {
+        match self {
+            Way::ByValue => replace_by_stepped(zone, job),
+            Way::Lent => jespurla::job_step_lent(zone, job),
+        }
+    }
+
+    /// The stack that a call must do with.
+    pub fn stack(self) -> usize {
+        match self {
+            Way::ByValue => 256 * 1024,
+            Way::Lent => 16 * 1024,
+        }
+    }
+}
+
+// A zone by value stands on the stack, so what handles one is never inlined:
+// the calls on a lent zone are to be tried on a stack that would not hold it.
+
+#[inline(never)]
+fn replace_by_sent(zone: &mut Zone, request: &Request) -> RequestAnswer {
+    let got = send(zone, request);
+    *zone = got.zone;
+    RequestAnswer {
+        refusal: got.refusal,
+        answer: got.answer,
+    }
+}
+
+#[inline(never)]
+fn replace_by_stepped(zone: &mut Zone, job: &Job) -> StepAnswer {
+    let got = jespurla::job_step(zone, job);
+    *zone = got.zone;
+    StepAnswer {
+        refusal: got.refusal,
+        job: got.job,
+    }
+}
 
 /// Sends a request, with the zone handed in and back.
 pub fn send(zone: &Zone, request: &Request) -> Answered {
@@ -18,13 +88,41 @@ pub fn send(zone: &Zone, request: &Request) -> Answered {
     }
 }
 
+/// Sends a request on a lent zone.
+pub fn send_lent(zone: &mut Zone, request: &Request) -> RequestAnswer {
+    let (name, family) = (&request.name.twin(), request.family);
+    let (dhcid, address) = (&dhcid(request), &address(request));
+    match request.kind {
+        Kind::A => jespurla::request_a_lent(zone, name, dhcid, family, address),
+        Kind::B => jespurla::request_b_lent(zone, name, dhcid, family, address, request.policy),
+        Kind::RemoveFirst => {
+            jespurla::request_remove_address_lent(zone, name, dhcid, family, address)
+        }
+        Kind::RemoveSecond => {
+            jespurla::request_remove_name_lent(zone, name, dhcid, family, address)
+        }
+    }
+}
+
 /// The refusal a request would get, 0 for none.
+#[inline(never)]
 pub fn check(zone: &Zone, request: &Request) -> u32 {
-    let policy = match request.kind {
+    let policy = policy(request);
+    jespurla::zone_check(zone, &request.name.twin(), request.family, policy)
+}
+
+/// The same, asked of a lent zone.
+pub fn check_lent(zone: &Zone, request: &Request) -> u32 {
+    let policy = policy(request);
+    jespurla::zone_check_lent(zone, &request.name.twin(), request.family, policy)
+}
+
+/// The policy that a check is asked with; B alone has one.
+fn policy(request: &Request) -> u8 {
+    match request.kind {
         Kind::B => request.policy,
         _ => 0,
-    };
-    jespurla::zone_check(zone, &request.name.twin(), request.family, policy)
+    }
 }
 
 /// A new add where the request is A, else a new remove.
