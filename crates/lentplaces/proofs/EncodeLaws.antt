@@ -200,7 +200,7 @@ entries-again (suc n) (e ∷ es) h =
     ∙ ap (λ (u : List ℕ). entryIn (entryOctets e) ∷ map entryIn (rows 374 n u)) (drop-at (entryOctets e) (entriesOctets es) 374 l)
     ∙ (λ i. entry-again e (h .0) i ∷ entries-again n es (h .1) i)
 
--- Every zone by value has octets that hold it.
+-- Every zone whose arrays have the lengths of the struct has octets that hold it.
 pub every-zone-is-held : EveryZoneIsHeld
 unfolding zoneIn
 every-zone-is-held z h = record { size = entries-length 64 (z .entries) h; zoneIs = ap (λ (es : List Entry). record { entries = es }) (entries-again 64 (z .entries) h) }

@@ -67,7 +67,7 @@ pub record Holds (octets : List ℕ) (z : Zone) : Type 0 where
   pub size : length octets ≡ 23936
   pub zoneIs : zoneIn octets ≡ z
 
--- Every zone by value has octets that hold it.
+-- Every zone whose arrays have the lengths of the struct has octets that hold it.
 abbrev pub EveryZoneIsHeld : Type 0
 EveryZoneIsHeld = (z : Zone) → SizedEntries 64 (z .entries) → Holds (octetsOf z) z
 
