@@ -17,8 +17,8 @@ use Rattle.leasepacket.specs.Query.{anySet, hardware, hardwareSet, keyed, relay
 use Rattle.leasetable.specs.Table.{risesFrom, tableFits, those, placed, ranked}
 use Rattle.leasereply.specs.Reply.{fixed, ofLease, flat, otherReply, activeReply}
 use Rattle.leasequery.specs.Answer.{hasKey, byAddressOf, byClientOf, answerBy, askedOf, answer}
-use Rattle.hosts.specs.Addresses.{mark}
-use Rattle.zone.specs.Zone.{with, put, heldBy, empty, address, newHost, left, fits, writeB, requestA, requestB, removeAddress, removeName}
+use Rattle.addresses.specs.Addresses.{mark}
+use Rattle.update.specs.Rules.{with, put, heldBy, empty, address, newHost, left, fits, writeB, requestA, requestB, removeAddress, removeName}
 use Rattle.job.specs.Jobs.{fresh, after, afterFirst, afterSecond, step}
 use Rattle.cases.specs.Cases.{Holds, All, cases, stepped, steppedFresh}
 

@@ -12,8 +12,8 @@ use Rattle.octets.specs.Number.{numberAt}
 use Rattle.lease.specs.declared.Lease.{Lease}
 use Rattle.leasequery.specs.Answer.{answer as queryAnswer, told, written}
 use Rattle.dname.specs.Name.{key}
-use Rattle.hosts.specs.Addresses.{four}
-use Rattle.zone.specs.Zone.{Host, Zone, Update, keepOthers, requestA}
+use Rattle.addresses.specs.Addresses.{four}
+use Rattle.update.specs.Rules.{Host, Zone, Update, keepOthers, requestA}
 use Rattle.job.specs.Jobs.{add, remove, Arguments, conflict, gone, Stage, beforeFirst, ended, fresh, step}
 use Rattle.serverlist.specs.Servers.{packed}
 use Rattle.serverlist.specs.declared.Server.{Server}

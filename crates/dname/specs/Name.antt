@@ -3,10 +3,11 @@ use Prim.Native.Nat.{ℕ, zero, suc}
 use mathlib.Core.Bool.{Bool, true, false, cond}
 use mathlib.Core.List.{List, [], _∷_}
 use lib.Dec.{ltb, leb}
-use lib.ListN.{length}
+use lib.ListN.{length, take}
 use Rattle.octets.specs.Compare.{sameOctets}
 use Rattle.dname.specs.declared.Shape.{Shape}
 use Rattle.dname.specs.declared.Shape.the-variants.{Empty, Full, Partial, Malformed}
+use Rattle.dname.specs.declared.name.Name.{Name}
 
 -- Document 01, "Name option": one label followed by a shorter name, or the end. The number says how many octets of the label
 -- that has begun are still to come. Where none are, the field ends there (partial), its last octet is 0 (full), or the length
@@ -31,6 +32,20 @@ unfoldable pub shapeOf : List ℕ → Shape
 shapeOf [] = Empty
 shapeOf (zero ∷ rest) = Malformed
 shapeOf (suc n ∷ rest) = limited (labelsOf 0 (suc n ∷ rest)) (length (suc n ∷ rest))
+
+abbrev pub full : Shape → Bool
+full Empty = false
+full Full = true
+full Partial = false
+full Malformed = false
+
+-- Whether a field holds a full name.
+unfoldable pub isFull : List ℕ → Bool
+isFull name = full (shapeOf name)
+
+-- The name that a struct holds: as many of its octets as its length says.
+abbrev pub nameOf : Name → List ℕ
+nameOf n = take (n .len) (n .octets)
 
 -- Document 01, "Name option": names are equal when their octets are. Two names are equal exactly when their keys are, and every
 -- rule that compares names goes by the key.

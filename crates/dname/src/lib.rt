@@ -5,6 +5,8 @@ ghost use lib.ListN.{length};
 ghost use Rattle.dname.specs.Name.{labelsOf, shapeOf, sameName};
 ghost use Rattle.dname.specs.Reading.{Passed, number};
 
+pub mod name;
+
 // What a field holds.
 pub enum Shape {
     // No octets.

@@ -4,7 +4,7 @@ use mathlib.Core.Bool.{Bool, true, false, cond}
 use Prim.Native.Nat.{ℕ}
 use lib.Dec.{eqb}
 use borrow.Author.Tests.{eq-eqb, ne-eqb}
-use Rattle.zone.specs.Zone.{Answer, success, YXDOMAIN, NXDOMAIN, NXRRSET, noRoom}
+use Rattle.update.specs.Rules.{Answer, success, YXDOMAIN, NXDOMAIN, NXRRSET, noRoom}
 use Rattle.request.specs.Promise.{numberOf}
 use Rattle.request.proofs.AnswerLaws.{number-success, number-nxdomain, number-yxdomain, number-nxrrset, number-no-room}
 use Rattle.job.specs.declared.job.Job.{Job}

@@ -6,15 +6,15 @@ use native.Mathlib.Omega.{arith}
 use lib.Dec.{eqb}
 use borrow.Author.Tests.{eq-eqb}
 use Rattle.octets.proofs.BoolLaws.{and-left, and-right}
-use Rattle.hosts.specs.Count.{Octets}
-use Rattle.places.specs.declared.name.Name.{Name}
-use Rattle.places.specs.declared.entry.Dhcid.{Dhcid}
-use Rattle.places.specs.declared.entry.Address.{Address}
-use Rattle.zone.specs.Zone as abstract
-use Rattle.zone.specs.Zone.{Answer, success, YXDOMAIN, NXDOMAIN, NXRRSET, noRoom, keepOthers, Policy, requestA, requestB, removeAddress, removeName}
-use Rattle.places.specs.Meaning.{nameOf, isFull}
-use Rattle.zone.specs.Meaning.{listed, policyOf, updateOf}
-use Rattle.zone.proofs.NumberLaws.{policy-zero}
+use Rattle.octets.specs.Count.{Octets}
+use Rattle.dname.specs.declared.name.Name.{Name}
+use Rattle.zone.specs.declared.entry.Dhcid.{Dhcid}
+use Rattle.zone.specs.declared.entry.Address.{Address}
+use Rattle.update.specs.Rules as abstract
+use Rattle.update.specs.Rules.{Answer, success, YXDOMAIN, NXDOMAIN, NXRRSET, noRoom, keepOthers, Policy, requestA, requestB, removeAddress, removeName}
+use Rattle.dname.specs.Name.{nameOf, isFull}
+use Rattle.update.specs.Meaning.{listed, policyOf, updateOf}
+use Rattle.update.proofs.NumberLaws.{policy-zero}
 use Rattle.job.specs.declared.job.Job.{Job}
 use Rattle.job.specs.declared.fresh.NewJob.{NewJob}
 use Rattle.job.specs.Jobs.{add, remove, Arguments, Stage, beforeA, beforeB, beforeFirst, beforeSecond, ended, End, done, conflict, gaveUp, notOurs, gone, kept, among, possible, after, passed, afterFirst, afterSecond, step}

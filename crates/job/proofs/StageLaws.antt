@@ -6,7 +6,7 @@ use Prim.Native.Nat.{ℕ, zero, suc, _≤_, _<_}
 use native.Mathlib.Omega.{arith}
 use lib.Dec.{eqb, leb}
 use borrow.Author.Tests.{lt-leb, le-leb, ne-eqb, eqb-true}
-use Rattle.zone.specs.Meaning.{listed}
+use Rattle.update.specs.Meaning.{listed}
 use Rattle.job.specs.declared.job.Job.{Job}
 use Rattle.job.specs.Jobs.{among, possible}
 use Rattle.job.specs.Meaning.{stageOf, stageListed, canHave, isAdd, numbersListed}

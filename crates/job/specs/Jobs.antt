@@ -4,7 +4,7 @@ use mathlib.Core.List.{List, [], _∷_}
 use mathlib.Core.Option.{Option, none, some}
 use Prim.Native.Nat.{ℕ, suc}
 use lib.Dec.{eqb}
-use Rattle.zone.specs.Zone.{Zone, Update, Policy, Answer, success, YXDOMAIN, NXDOMAIN, NXRRSET, Outcome, requestA, requestB, removeAddress, removeName}
+use Rattle.update.specs.Rules.{Zone, Update, Policy, Answer, success, YXDOMAIN, NXDOMAIN, NXRRSET, Outcome, requestA, requestB, removeAddress, removeName}
 
 pub data Kind : Type 0 where
   add remove : Kind

@@ -3,12 +3,12 @@ use mathlib.Core.Path.{_≡_}
 use mathlib.Core.Bool.{cond}
 use Prim.Native.Nat.{ℕ}
 use lib.Dec.{eqb}
-use Rattle.hosts.specs.Count.{Octets}
-use Rattle.places.specs.declared.name.Name.{Name}
-use Rattle.places.specs.declared.entry.Dhcid.{Dhcid}
-use Rattle.places.specs.declared.entry.Address.{Address}
-use Rattle.places.specs.Meaning.{nameOf, isFull}
-use Rattle.zone.specs.Meaning.{listed}
+use Rattle.octets.specs.Count.{Octets}
+use Rattle.dname.specs.declared.name.Name.{Name}
+use Rattle.zone.specs.declared.entry.Dhcid.{Dhcid}
+use Rattle.zone.specs.declared.entry.Address.{Address}
+use Rattle.dname.specs.Name.{nameOf, isFull}
+use Rattle.update.specs.Meaning.{listed}
 use Rattle.job.specs.declared.job.Job.{Job}
 use Rattle.job.specs.declared.fresh.NewJob.{NewJob}
 use Rattle.job.specs.Meaning.{freshAdd, freshRemove, blank}

@@ -1,12 +1,12 @@
 // New jobs.
 use crate::job::Job;
-use places::entry::Address;
-use places::entry::Dhcid;
-use places::name;
-use places::name::Name;
-use zone::numbers;
+use dname::name;
+use dname::name::Name;
+use update::numbers;
+use zone::entry::Address;
+use zone::entry::Dhcid;
 ghost use mathlib.Core.Path.{_≡_};
-ghost use Rattle.places.specs.Meaning.{nameOf};
+ghost use Rattle.dname.specs.Name.{nameOf};
 ghost use Rattle.job.specs.Meaning.{blank};
 ghost use Rattle.job.specs.Promise.{newRefusal, newJob, AddPromise, RemovePromise};
 

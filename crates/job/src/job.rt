@@ -1,7 +1,7 @@
 // A job by value.
-use places::entry::Address;
-use places::entry::Dhcid;
-use places::name::Name;
+use dname::name::Name;
+use zone::entry::Address;
+use zone::entry::Dhcid;
 
 // stage: an add is before request A (1) or B (2), done (3), in conflict (4), without room (5), or
 // gave up (6); a remove is before its first request (11) or its second (12), or found the name not

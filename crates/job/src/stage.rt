@@ -1,6 +1,6 @@
 // The numbers that a job may have.
 use crate::job::Job;
-use zone::numbers;
+use update::numbers;
 ghost use mathlib.Core.Path.{_≡_};
 ghost use mathlib.Core.List.{[], _∷_};
 ghost use Prim.Native.Nat.{_≤_, _<_};

@@ -1,5 +1,6 @@
 -- The definitions that the contracts cite.
 pub mod Compare
+pub mod Count
 pub mod Number
 pub mod Write
 -- For the contracts of inner functions; no public promise cites these.

@@ -1,6 +1,6 @@
 -- The numbers of answers, for crates that read them. Assumes nothing.
 use mathlib.Core.Path.{_≡_, refl}
-use Rattle.zone.specs.Zone.{success, YXDOMAIN, NXDOMAIN, NXRRSET, noRoom}
+use Rattle.update.specs.Rules.{success, YXDOMAIN, NXDOMAIN, NXRRSET, noRoom}
 use Rattle.request.specs.Promise.{numberOf}
 
 pub number-success : numberOf success ≡ 0

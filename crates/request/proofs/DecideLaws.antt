@@ -7,24 +7,24 @@ use native.Mathlib.Omega.{arith}
 use borrow.Author.Tests.{ne-eqb}
 use lib.Dec.{eqb}
 use lib.ListN.{getD}
-use Rattle.dname.specs.Name.{key}
-use Rattle.places.specs.declared.name.Name.{Name}
-use Rattle.places.specs.declared.entry.Entry.{Entry}
-use Rattle.places.specs.declared.entry.Records.{Records}
-use Rattle.places.specs.declared.entry.Dhcid.{Dhcid}
-use Rattle.places.specs.declared.entry.Address.{Address}
-use Rattle.places.specs.declared.survey.Zone.{Zone}
-use Rattle.places.specs.declared.survey.Survey.{Survey}
+use Rattle.dname.specs.Name.{key, nameOf}
+use Rattle.dname.specs.declared.name.Name.{Name}
+use Rattle.zone.specs.declared.entry.Entry.{Entry}
+use Rattle.zone.specs.declared.entry.Records.{Records}
+use Rattle.zone.specs.declared.entry.Dhcid.{Dhcid}
+use Rattle.zone.specs.declared.entry.Address.{Address}
+use Rattle.zone.specs.declared.Zone.{Zone}
+use Rattle.zone.specs.declared.survey.Survey.{Survey}
 use Rattle.request.specs.declared.decide.Change.{Change}
-use Rattle.zone.specs.Zone as rules
-use Rattle.zone.specs.Zone.{Host, GoodHost, Update, put, Answer, success, YXDOMAIN, NXDOMAIN, NXRRSET, noRoom, Outcome, says, heldBy, empty, address, newHost, left, fits, requestA, requestB, removeAddress, removeName}
-use Rattle.places.specs.Meaning.{nameOf, used, keyOf, inOrder, formed}
-use Rattle.zone.specs.Meaning.{hostOf, zoneOf, familyOf, policyOf, updateOf}
+use Rattle.update.specs.Rules as rules
+use Rattle.update.specs.Rules.{Host, GoodHost, Update, put, Answer, success, YXDOMAIN, NXDOMAIN, NXRRSET, noRoom, Outcome, says, heldBy, empty, address, newHost, left, fits, requestA, requestB, removeAddress, removeName}
+use Rattle.zone.specs.Meaning.{used, keyOf, inOrder, formed}
+use Rattle.update.specs.Meaning.{hostOf, zoneOf, familyOf, policyOf, updateOf}
 use Rattle.request.specs.Promise.{numberOf}
-use Rattle.places.specs.Survey.{Found, placeOf}
+use Rattle.zone.specs.Survey.{Found, placeOf}
 use Rattle.request.specs.Inner.{SaysOnly, requestOf, written, Decided, Adds, Seen, Decides, Stands, Makes, Fresh, AlreadyAdded, HasAddress, HasRoom, Joined, Parted}
-use Rattle.places.proofs.SurveyLaws.{blank}
-use Rattle.zone.proofs.ZoneLaws.{some≢none, put-same, put-stood, A-new, A-full, A-there, B-absent, B-other, B-full, B-done, remove-address-absent, remove-address-other, remove-address-own, remove-name-absent, remove-name-kept, remove-name-gone}
+use Rattle.zone.proofs.SurveyLaws.{blank}
+use Rattle.update.proofs.ZoneLaws.{some≢none, put-same, put-stood, A-new, A-full, A-there, B-absent, B-other, B-full, B-done, remove-address-absent, remove-address-other, remove-address-own, remove-name-absent, remove-name-kept, remove-name-gone}
 use Rattle.request.proofs.HostLaws.{about}
 use Rattle.request.proofs.StayLaws.{removed-same, removed-other, added-same, added-other}
 use Rattle.request.proofs.PlaceLaws.{good-host, found-order, found-host, found-changed, found-freed, not-found, free-written, free-room, no-room}

@@ -9,21 +9,22 @@ use lib.Dec.{eqb, leb, ltb}
 use lib.ListN.{length, getD, take}
 use borrow.Author.Tests.{eq-eqb, ne-eqb, leb-true, le-leb}
 use Rattle.octets.proofs.BoolLaws.{and-left, and-right}
-use Rattle.hosts.specs.Count.{Octets, member, distinct}
-use Rattle.hosts.specs.Addresses.{Family, four, six, Addresses, nothing, mark, list4, list6, setOf, sound, joined, without}
-use Rattle.hosts.specs.declared.set4.Set4.{Set4}
-use Rattle.hosts.specs.declared.set6.Set6.{Set6}
-use Rattle.hosts.proofs.CountLaws.{distinct-nil, distinct-without}
-use Rattle.hosts.proofs.SetLaws.{sound-few, sound-once, sound-both, joined-once, joined-mark, without-mark}
-use Rattle.places.specs.declared.entry.Entry.{Entry}
-use Rattle.places.specs.declared.entry.Records.{Records}
-use Rattle.places.specs.declared.entry.Address.{Address}
-use Rattle.places.specs.declared.entry.Dhcid.{Dhcid}
-use Rattle.places.specs.declared.name.Name.{Name}
-use Rattle.zone.specs.Zone.{Host, Update, ownFamily, isFamily, with, address, fits, left, newHost}
-use Rattle.places.specs.Meaning.{nameOf, isFull, inOrder}
-use Rattle.places.specs.Survey.{recordsOf}
-use Rattle.zone.specs.Meaning.{listOf, hostOf, familyOf, policyOf, addressOf, updateOf}
+use Rattle.octets.specs.Count.{Octets, member, distinct, without}
+use Rattle.addresses.specs.Addresses.{Family, four, six, Addresses, nothing, mark, list4, list6, setOf, sound, joined}
+use Rattle.addresses.specs.declared.set4.Set4.{Set4}
+use Rattle.addresses.specs.declared.set6.Set6.{Set6}
+use Rattle.octets.proofs.CountLaws.{distinct-nil, distinct-without}
+use Rattle.addresses.proofs.SetLaws.{sound-few, sound-once, sound-both, joined-once, joined-mark, without-mark}
+use Rattle.zone.specs.declared.entry.Entry.{Entry}
+use Rattle.zone.specs.declared.entry.Records.{Records}
+use Rattle.zone.specs.declared.entry.Address.{Address}
+use Rattle.zone.specs.declared.entry.Dhcid.{Dhcid}
+use Rattle.dname.specs.declared.name.Name.{Name}
+use Rattle.update.specs.Rules.{Host, Update, ownFamily, isFamily, with, address, fits, left, newHost}
+use Rattle.dname.specs.Name.{nameOf, isFull}
+use Rattle.zone.specs.Meaning.{inOrder}
+use Rattle.zone.specs.Survey.{recordsOf}
+use Rattle.update.specs.Meaning.{listOf, hostOf, familyOf, policyOf, addressOf, updateOf}
 use Rattle.request.specs.Inner.{Stands, Makes, Joined, About, alone, emptied}
 
 -- ---- a place in order, by its parts

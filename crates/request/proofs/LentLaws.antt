@@ -7,22 +7,23 @@ use native.Mathlib.Decide.{ℕ-discrete}
 use native.Mathlib.Omega.{arith}
 use lib.ListN.{length, getD}
 use borrow.Author.Tests.{eq-eqb, ne-eqb}
-use Rattle.hosts.specs.Count.{Octets}
-use Rattle.places.specs.declared.name.Name.{Name}
-use Rattle.places.specs.declared.entry.Entry.{Entry}
-use Rattle.places.specs.declared.entry.Records.{Records}
-use Rattle.places.specs.declared.survey.Zone.{Zone}
-use Rattle.places.specs.declared.survey.Survey.{Survey}
-use Rattle.places.specs.Meaning.{nameOf, formed}
-use Rattle.places.specs.Survey.{placeOf, recordsOf}
-use Rattle.places.proofs.SurveyLaws.{blank}
-use Rattle.zone.specs.Zone as rules
-use Rattle.zone.specs.Zone.{Outcome}
-use Rattle.zone.specs.Meaning.{zoneOf}
-use Rattle.lentplaces.specs.Decode.{zoneIn}
-use Rattle.lentplaces.specs.Inner.{SurveyedIn, recordsAt, nameAt, Written}
-use Rattle.lentplaces.proofs.DecodeLaws.{one-place-same}
-use Rattle.lentplaces.proofs.PlaceLaws.{place-at}
+use Rattle.octets.specs.Count.{Octets}
+use Rattle.dname.specs.declared.name.Name.{Name}
+use Rattle.zone.specs.declared.entry.Entry.{Entry}
+use Rattle.zone.specs.declared.entry.Records.{Records}
+use Rattle.zone.specs.declared.Zone.{Zone}
+use Rattle.zone.specs.declared.survey.Survey.{Survey}
+use Rattle.dname.specs.Name.{nameOf}
+use Rattle.zone.specs.Meaning.{formed}
+use Rattle.zone.specs.Survey.{placeOf, recordsOf}
+use Rattle.zone.proofs.SurveyLaws.{blank}
+use Rattle.update.specs.Rules as rules
+use Rattle.update.specs.Rules.{Outcome}
+use Rattle.update.specs.Meaning.{zoneOf}
+use Rattle.lentzone.specs.Decode.{zoneIn}
+use Rattle.lentzone.specs.Inner.{SurveyedIn, recordsAt, nameAt, Written}
+use Rattle.lentzone.proofs.DecodeLaws.{one-place-same}
+use Rattle.lentzone.proofs.PlaceLaws.{place-at}
 use Rattle.request.specs.declared.lent.RequestAnswer.{RequestAnswer}
 use Rattle.request.specs.declared.decide.Change.{Change}
 use Rattle.request.specs.Promise.{refusalOf, Promised}

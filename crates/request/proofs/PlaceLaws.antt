@@ -12,21 +12,21 @@ use borrow.Table.Steps.{cases}
 use Rattle.octets.proofs.BoolLaws.{and-left, and-right}
 use Rattle.octets.specs.Compare.{sameOctets}
 use Rattle.octets.proofs.CompareLaws.{same-true}
-use Rattle.dname.specs.Name.{key, sameName}
-use Rattle.hosts.specs.Count.{Octets, member, distinct}
-use Rattle.hosts.specs.Addresses.{Family, four, six}
-use Rattle.hosts.proofs.CountLaws.{same-yes, same-no, same-dec, counts-list, distinct-head, distinct-rest, distinct-cons}
-use Rattle.hosts.proofs.SetLaws.{sound-few, sound-once}
-use Rattle.places.specs.declared.name.Name.{Name}
-use Rattle.places.specs.declared.entry.Entry.{Entry}
-use Rattle.places.specs.declared.survey.Zone.{Zone}
-use Rattle.zone.specs.Zone as rules
-use Rattle.zone.specs.Zone.{Host, there, GoodHost, Form, put}
-use Rattle.places.specs.Meaning.{nameOf, used, keyOf, keys, inOrder, allInOrder, formed}
-use Rattle.zone.specs.Meaning.{listOf, hostOf, look, zoneOf}
-use Rattle.places.specs.Survey.{named, placeFrom}
+use Rattle.dname.specs.Name.{key, sameName, nameOf}
+use Rattle.octets.specs.Count.{Octets, member, distinct}
+use Rattle.addresses.specs.Addresses.{Family, four, six}
+use Rattle.octets.proofs.CountLaws.{same-yes, same-no, same-dec, counts-list, distinct-head, distinct-rest, distinct-cons}
+use Rattle.addresses.proofs.SetLaws.{sound-few, sound-once}
+use Rattle.dname.specs.declared.name.Name.{Name}
+use Rattle.zone.specs.declared.entry.Entry.{Entry}
+use Rattle.zone.specs.declared.Zone.{Zone}
+use Rattle.update.specs.Rules as rules
+use Rattle.update.specs.Rules.{Host, there, GoodHost, Form, put}
+use Rattle.zone.specs.Meaning.{used, keyOf, keys, inOrder, allInOrder, formed}
+use Rattle.update.specs.Meaning.{listOf, hostOf, look, zoneOf}
+use Rattle.zone.specs.Survey.{named, placeFrom}
 use Rattle.request.proofs.HostLaws.{order-parts}
-use Rattle.zone.proofs.ZoneLaws.{some≢none, zone-eq, named-put, put-size}
+use Rattle.update.proofs.ZoneLaws.{some≢none, zone-eq, named-put, put-size}
 
 -- ---- the form of the structs, and what it gives
 

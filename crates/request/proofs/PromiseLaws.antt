@@ -9,21 +9,22 @@ use lib.ListN.{length, getD}
 use lib.Seq.{set-out}
 use borrow.Author.Tests.{eq-eqb, ne-eqb, ltb-true, ltb-false}
 use borrow.Table.Steps.{cases}
-use Rattle.hosts.specs.Count.{Octets, distinct}
-use Rattle.places.specs.declared.name.Name.{Name}
-use Rattle.places.specs.declared.entry.Entry.{Entry}
-use Rattle.places.specs.declared.entry.Records.{Records}
-use Rattle.places.specs.declared.survey.Zone.{Zone}
-use Rattle.places.specs.declared.survey.Visit.{Visit}
+use Rattle.octets.specs.Count.{Octets, distinct}
+use Rattle.dname.specs.declared.name.Name.{Name}
+use Rattle.zone.specs.declared.entry.Entry.{Entry}
+use Rattle.zone.specs.declared.entry.Records.{Records}
+use Rattle.zone.specs.declared.Zone.{Zone}
+use Rattle.zone.specs.declared.survey.Visit.{Visit}
 use Rattle.request.specs.declared.decide.Change.{Change}
 use Rattle.request.specs.declared.Effect.{Effect}
 use Rattle.request.specs.declared.Answered.{Answered}
-use Rattle.zone.specs.Zone as rules
-use Rattle.zone.specs.Zone.{Outcome}
-use Rattle.places.specs.Meaning.{nameOf, isFull, keys, allInOrder, formed}
-use Rattle.zone.specs.Meaning.{zoneOf, listed}
+use Rattle.update.specs.Rules as rules
+use Rattle.update.specs.Rules.{Outcome}
+use Rattle.dname.specs.Name.{nameOf, isFull}
+use Rattle.zone.specs.Meaning.{keys, allInOrder, formed}
+use Rattle.update.specs.Meaning.{zoneOf, listed}
 use Rattle.request.specs.Promise.{numberOf, refusalOf, Promised}
-use Rattle.places.specs.Survey.{Visited, placeOf, recordsOf}
+use Rattle.zone.specs.Survey.{Visited, placeOf, recordsOf}
 use Rattle.request.specs.Inner.{written, settled, effectAt, Decided, Adds, Decides, Comes}
 use Rattle.request.proofs.PlaceLaws.{formed-places}
 

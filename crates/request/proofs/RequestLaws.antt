@@ -10,14 +10,14 @@ use lib.ListN.{length}
 use borrow.Author.Tests.{ltb-true, ltb-false}
 use borrow.Table.Steps.{cases}
 use Rattle.dname.specs.Name.{key}
-use Rattle.hosts.specs.Count.{Octets, distinct}
-use Rattle.hosts.proofs.CountLaws.{distinct-nil}
-use Rattle.places.specs.declared.entry.Entry.{Entry}
-use Rattle.places.specs.declared.survey.Zone as place
-use Rattle.zone.specs.Zone.{Host, Zone, Form, put, Update, Policy, Answer, success, YXDOMAIN, NXDOMAIN, NXRRSET, noRoom, Outcome, says, atName, heldBy, empty, address, newHost, left, fits, requestA, requestB, removeAddress, removeName}
-use Rattle.places.specs.Meaning.{used, keys, allInOrder, formed}
-use Rattle.zone.specs.Meaning.{look, zoneOf}
-use Rattle.zone.proofs.ZoneLaws.{option-case, put-at, put-off, good-add, good-remove, good-left, good-new, form-new, form-change, form-delete, A-new, A-full, A-there, B-absent, B-other, B-full, B-done, remove-address-absent, remove-address-other, remove-address-own, remove-name-absent, remove-name-kept, remove-name-gone}
+use Rattle.octets.specs.Count.{Octets, distinct}
+use Rattle.octets.proofs.CountLaws.{distinct-nil}
+use Rattle.zone.specs.declared.entry.Entry.{Entry}
+use Rattle.zone.specs.declared.Zone as place
+use Rattle.update.specs.Rules.{Host, Zone, Form, put, Update, Policy, Answer, success, YXDOMAIN, NXDOMAIN, NXRRSET, noRoom, Outcome, says, atName, heldBy, empty, address, newHost, left, fits, requestA, requestB, removeAddress, removeName}
+use Rattle.zone.specs.Meaning.{used, keys, allInOrder, formed}
+use Rattle.update.specs.Meaning.{look, zoneOf}
+use Rattle.update.proofs.ZoneLaws.{option-case, put-at, put-off, good-add, good-remove, good-left, good-new, form-new, form-change, form-delete, A-new, A-full, A-there, B-absent, B-other, B-full, B-done, remove-address-absent, remove-address-other, remove-address-own, remove-name-absent, remove-name-kept, remove-name-gone}
 use Rattle.request.proofs.PlaceLaws.{None, formed-all}
 
 -- ---- every request either succeeds and writes at its name, or changes nothing

@@ -5,24 +5,25 @@ use mathlib.Core.Bool.{Bool, true, false, cond, _&&_}
 use Prim.Native.Nat.{ℕ, _+_, _<_}
 use lib.Dec.{eqb}
 use lib.ListN.{getD, set}
-use Rattle.hosts.specs.Count.{Octets}
-use Rattle.hosts.specs.Addresses.{Family, four, six, nothing}
-use Rattle.places.specs.declared.name.Name.{Name}
-use Rattle.places.specs.declared.entry.Address.{Address}
-use Rattle.places.specs.declared.entry.Dhcid.{Dhcid}
-use Rattle.places.specs.declared.entry.Entry.{Entry}
-use Rattle.places.specs.declared.entry.Records.{Records}
-use Rattle.places.specs.declared.survey.Zone.{Zone}
-use Rattle.places.specs.declared.survey.Survey.{Survey}
-use Rattle.places.specs.declared.survey.Visit.{Visit}
-use Rattle.places.specs.Meaning.{nameOf, isFull, inOrder, formed}
-use Rattle.places.specs.Survey.{Found, Surveyed, Visited, placeOf, recordsOf}
+use Rattle.octets.specs.Count.{Octets}
+use Rattle.addresses.specs.Addresses.{Family, four, six, nothing}
+use Rattle.dname.specs.declared.name.Name.{Name}
+use Rattle.zone.specs.declared.entry.Address.{Address}
+use Rattle.zone.specs.declared.entry.Dhcid.{Dhcid}
+use Rattle.zone.specs.declared.entry.Entry.{Entry}
+use Rattle.zone.specs.declared.entry.Records.{Records}
+use Rattle.zone.specs.declared.Zone.{Zone}
+use Rattle.zone.specs.declared.survey.Survey.{Survey}
+use Rattle.zone.specs.declared.survey.Visit.{Visit}
+use Rattle.dname.specs.Name.{nameOf, isFull}
+use Rattle.zone.specs.Meaning.{inOrder, formed}
+use Rattle.zone.specs.Survey.{Found, Surveyed, Visited, placeOf, recordsOf}
 use Rattle.request.specs.declared.decide.Change.{Change}
 use Rattle.request.specs.declared.Answered.{Answered}
 use Rattle.request.specs.declared.Effect.{Effect}
-use Rattle.zone.specs.Zone as rules
-use Rattle.zone.specs.Zone.{Host, Update, Policy, keepOthers, oneOfFamily, onlyThis, ownFamily, address, newHost, fits, Outcome, requestA, requestB, removeAddress, removeName}
-use Rattle.zone.specs.Meaning.{hostOf, zoneOf, familyOf, policyOf, addressOf, updateOf}
+use Rattle.update.specs.Rules as rules
+use Rattle.update.specs.Rules.{Host, Update, Policy, keepOthers, oneOfFamily, onlyThis, ownFamily, address, newHost, fits, Outcome, requestA, requestB, removeAddress, removeName}
+use Rattle.update.specs.Meaning.{hostOf, zoneOf, familyOf, policyOf, addressOf, updateOf}
 use Rattle.request.specs.Promise.{numberOf, refusalOf}
 
 -- the refusal that follows from a survey

@@ -5,11 +5,11 @@ use mathlib.Core.List.{List}
 use Prim.Native.Nat.{ℕ}
 use lib.Dec.{eqb}
 use lib.ListN.{length}
-use Rattle.hosts.specs.Count.{Octets}
-use Rattle.zone.specs.Zone as rules
-use Rattle.zone.specs.Zone.{Outcome}
-use Rattle.zone.specs.Meaning.{zoneOf}
-use Rattle.lentplaces.specs.Decode.{zoneIn, OnePlace}
+use Rattle.octets.specs.Count.{Octets}
+use Rattle.update.specs.Rules as rules
+use Rattle.update.specs.Rules.{Outcome}
+use Rattle.update.specs.Meaning.{zoneOf}
+use Rattle.lentzone.specs.Decode.{zoneIn, OnePlace}
 use Rattle.request.specs.declared.Answered.{Answered}
 use Rattle.request.specs.declared.lent.RequestAnswer.{RequestAnswer}
 use Rattle.request.specs.Promise.{refusalOf, Promised}

@@ -3,12 +3,13 @@ use mathlib.Core.Path.{_≡_}
 use mathlib.Core.Bool.{true, cond}
 use Prim.Native.Nat.{ℕ}
 use lib.Dec.{eqb}
-use Rattle.hosts.specs.Count.{Octets}
-use Rattle.places.specs.declared.survey.Zone.{Zone}
+use Rattle.octets.specs.Count.{Octets}
+use Rattle.zone.specs.declared.Zone.{Zone}
 use Rattle.request.specs.declared.Answered.{Answered}
-use Rattle.zone.specs.Zone.{Answer, success, YXDOMAIN, NXDOMAIN, NXRRSET, noRoom, Outcome}
-use Rattle.places.specs.Meaning.{formed, isFull}
-use Rattle.zone.specs.Meaning.{zoneOf, listed}
+use Rattle.update.specs.Rules.{Answer, success, YXDOMAIN, NXDOMAIN, NXRRSET, noRoom, Outcome}
+use Rattle.dname.specs.Name.{isFull}
+use Rattle.zone.specs.Meaning.{formed}
+use Rattle.update.specs.Meaning.{zoneOf, listed}
 
 -- The refusals in their order: the zone's form, a number that is not listed, a name that is not full. 0 is none.
 unfoldable pub refusalOf : Zone → Octets → ℕ → ℕ → ℕ

@@ -1,14 +1,14 @@
 // What a request comes to, decided on the survey of a zone and on what stands at the place found. No
 // name goes in: the caller writes a new one, and the one that stands at a place stays.
 use crate::host;
-use places::entry::Address;
-use places::entry::Dhcid;
-use places::entry::Records;
-use places::survey::Survey;
-use zone::prerequisite;
+use update::prerequisite;
+use zone::entry::Address;
+use zone::entry::Dhcid;
+use zone::entry::Records;
+use zone::survey::Survey;
 ghost use Prim.Native.Nat.{ℕ};
-ghost use Rattle.zone.specs.Zone.{requestA, requestB, removeAddress, removeName};
-ghost use Rattle.zone.specs.Meaning.{policyOf, updateOf};
+ghost use Rattle.update.specs.Rules.{requestA, requestB, removeAddress, removeName};
+ghost use Rattle.update.specs.Meaning.{policyOf, updateOf};
 ghost use Rattle.request.specs.Inner.{SaysOnly, Adds, Decides};
 
 // The numbers of the answers: RFC 2136's response codes, and one of our own.

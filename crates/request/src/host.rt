@@ -1,18 +1,18 @@
 // What the requests write at one name: what stands there, without the name.
-use hosts::set4;
-use hosts::set4::Addr4;
-use hosts::set6;
-use hosts::set6::Addr6;
-use places::entry::Address;
-use places::entry::Dhcid;
-use places::entry::Records;
+use addresses::set4;
+use addresses::set4::Addr4;
+use addresses::set6;
+use addresses::set6::Addr6;
+use zone::entry::Address;
+use zone::entry::Dhcid;
+use zone::entry::Records;
 ghost use mathlib.Core.Path.{_≡_};
 ghost use Prim.Native.Nat.{_≤_};
 ghost use lib.ListN.{take};
-ghost use Rattle.hosts.specs.Addresses.{nothing};
-ghost use Rattle.places.specs.declared.name.Name.{Name};
-ghost use Rattle.zone.specs.Zone.{with, left};
-ghost use Rattle.zone.specs.Meaning.{familyOf, policyOf};
+ghost use Rattle.addresses.specs.Addresses.{nothing};
+ghost use Rattle.dname.specs.declared.name.Name.{Name};
+ghost use Rattle.update.specs.Rules.{with, left};
+ghost use Rattle.update.specs.Meaning.{familyOf, policyOf};
 ghost use Rattle.request.specs.Inner.{hostAt, Makes, Fresh, HasRoom, HasAddress, AlreadyAdded, Joined, Parted, alone, emptied};
 
 // The address as one of family 4, and as one of family 6.

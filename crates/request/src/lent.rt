@@ -1,18 +1,18 @@
 // The public calls on a zone that is lent: 23,936 octets in the layout of the C struct, read and
 // written where they lie. Refusals and decisions are those of the calls by value.
 use crate::decide;
-use lentplaces::place;
-use lentplaces::survey;
-use places::entry::Address;
-use places::entry::Dhcid;
-use places::name::Name;
-use places::survey::Survey;
+use dname::name::Name;
+use lentzone::place;
+use lentzone::survey;
+use zone::entry::Address;
+use zone::entry::Dhcid;
+use zone::survey::Survey;
 ghost use mathlib.Core.Path.{_≡_};
 ghost use lib.ListN.{length, take};
-ghost use Rattle.lentplaces.specs.Inner.{SurveyedIn};
-ghost use Rattle.zone.specs.Zone.{requestA, requestB, removeAddress, removeName};
-ghost use Rattle.places.specs.Meaning.{nameOf};
-ghost use Rattle.zone.specs.Meaning.{policyOf, updateOf};
+ghost use Rattle.lentzone.specs.Inner.{SurveyedIn};
+ghost use Rattle.update.specs.Rules.{requestA, requestB, removeAddress, removeName};
+ghost use Rattle.dname.specs.Name.{nameOf};
+ghost use Rattle.update.specs.Meaning.{policyOf, updateOf};
 ghost use Rattle.request.specs.Lent.{refusalIn, PromisedIn};
 ghost use Rattle.request.specs.Inner.{requestOf, nameIn};
 

@@ -5,23 +5,23 @@ mod host;
 pub mod lent;
 
 use crate::decide::Change;
-use places::entry::Address;
-use places::entry::Dhcid;
-use places::entry::Entry;
-use places::entry::Records;
-use places::name;
-use places::name::Name;
-use places::survey;
-use places::survey::Survey;
-use places::survey::Visit;
-use places::survey::Zone;
-use zone::numbers;
+use dname::name;
+use dname::name::Name;
+use update::numbers;
+use zone::Zone;
+use zone::entry::Address;
+use zone::entry::Dhcid;
+use zone::entry::Entry;
+use zone::entry::Records;
+use zone::survey;
+use zone::survey::Survey;
+use zone::survey::Visit;
 ghost use mathlib.Core.Path.{_≡_};
 ghost use lib.ListN.{length, take};
-ghost use Rattle.zone.specs.Zone.{requestA, requestB, removeAddress, removeName};
-ghost use Rattle.places.specs.Meaning.{nameOf};
-ghost use Rattle.places.specs.Survey.{recordsOf};
-ghost use Rattle.zone.specs.Meaning.{policyOf, updateOf, zoneOf};
+ghost use Rattle.update.specs.Rules.{requestA, requestB, removeAddress, removeName};
+ghost use Rattle.dname.specs.Name.{nameOf};
+ghost use Rattle.zone.specs.Survey.{recordsOf};
+ghost use Rattle.update.specs.Meaning.{policyOf, updateOf, zoneOf};
 ghost use Rattle.request.specs.Promise.{refusalOf, Promised};
 ghost use Rattle.request.specs.Inner.{requestOf, written as writtenAt, settled, effectAt, Decides, Comes, Refuses};
 
@@ -69,7 +69,7 @@ fn refusal(s: Survey, o: &[u8], len: u8, family: u8, policy: u8) -> u32
         return 18;
     }
     let n = len as usize;
-    if !name::is_full_in(&o[..n]) {
+    if !name::is_full_name(&o[..n]) {
         return 11;
     }
     0

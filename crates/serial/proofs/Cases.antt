@@ -8,13 +8,13 @@ use native.Mathlib.Omega.{arith}
 use lib.ListN.{getElem?}
 use Rattle.octets.specs.Compare.{sameOctets}
 use Rattle.dname.specs.Name.{key}
-use Rattle.hosts.specs.Count.{Octets, member, distinct, Counts}
-use Rattle.hosts.specs.Addresses.{Family, four, six, Addresses, nothing, mark}
-use Rattle.hosts.proofs.CountLaws.{counts-nothing, counts-list}
-use Rattle.zone.specs.Zone.{Host, Zone, there, GoodHost, Form, with, put, Update, keepOthers, heldBy, empty, address, requestA, requestB, removeAddress, removeName}
+use Rattle.octets.specs.Count.{Octets, member, distinct, Counts}
+use Rattle.addresses.specs.Addresses.{Family, four, six, Addresses, nothing, mark}
+use Rattle.octets.proofs.CountLaws.{counts-nothing, counts-list}
+use Rattle.update.specs.Rules.{Host, Zone, there, GoodHost, Form, with, put, Update, keepOthers, heldBy, empty, address, requestA, requestB, removeAddress, removeName}
 use Rattle.job.specs.Jobs.{add, remove, Arguments, End, conflict, gone, ended, Job, fresh, after, afterFirst, afterSecond, step, Sends, hasEnded, sends}
 use Rattle.serial.specs.Demand.{Calls, Promises, noJob, oneMore, start, stepped, verdict, stands, times, nobody, next, Explains, Story, HeldHaveAddress, Serializable}
-use Rattle.zone.proofs.ZoneLaws.{some≢none}
+use Rattle.update.proofs.ZoneLaws.{some≢none}
 use Rattle.serial.proofs.Demand.{stronger, demand3}
 
 pub record Result : Type 0 where

@@ -8,10 +8,10 @@ use native.Mathlib.Decide.{ℕ-discrete}
 use native.Mathlib.Omega.{arith}
 use lib.Dec.{eqb}
 use lib.ListN.{getElem?, set}
-use Rattle.zone.specs.Zone.{Zone, Answer, success, YXDOMAIN, NXDOMAIN, NXRRSET, requestA, fits, requestB, removeAddress, removeName}
+use Rattle.update.specs.Rules.{Zone, Answer, success, YXDOMAIN, NXDOMAIN, NXRRSET, requestA, fits, requestB, removeAddress, removeName}
 use Rattle.job.specs.Jobs.{add, remove, Arguments, End, done, conflict, noRoom, gaveUp, notOurs, gone, kept, Stage, beforeA, beforeB, beforeFirst, beforeSecond, ended, Job, possible, fresh, after, passed, afterFirst, afterSecond, step, sent}
 use Rattle.serial.specs.Demand.{Calls, Promises, going, Fresh, noJob, oneMore, Steps, start, stepped, refused, ownSteps, most, EndsInTime, NeverRefused, SixAtMost, Delivered}
-use Rattle.zone.proofs.ZoneLaws.{some≢none}
+use Rattle.update.proofs.ZoneLaws.{some≢none}
 use Rattle.job.proofs.StageLaws.{each-among}
 use Rattle.serial.proofs.ListLaws.{set-same, set-other}
 use Rattle.serial.proofs.StageLaws.{possible-fresh, possible-step}

@@ -4,7 +4,7 @@ use mathlib.Core.List.{List, [], _∷_}
 use mathlib.Core.Option.{some}
 use Prim.Native.Nat.{ℕ, zero, suc}
 use lib.ListN.{getElem?, set}
-use Rattle.zone.proofs.ZoneLaws.{some≢none}
+use Rattle.update.proofs.ZoneLaws.{some≢none}
 
 pub set-same : {A : Type 0} (l : List A) (i : ℕ) (a b : A) → getElem? l i ≡ some a → getElem? (set l i b) i ≡ some b
 set-same [] i a b e = absurd (some≢none (sym e))

@@ -6,8 +6,8 @@ use Prim.Native.Nat.{ℕ}
 use native.Mathlib.Decide.{ℕ-discrete}
 use native.Mathlib.Omega.{arith}
 use lib.ListN.{length}
-use Rattle.places.specs.declared.survey.Zone.{Zone}
-use Rattle.lentplaces.specs.Decode.{zoneIn}
+use Rattle.zone.specs.declared.Zone.{Zone}
+use Rattle.lentzone.specs.Decode.{zoneIn}
 use Rattle.job.specs.declared.job.Job.{Job}
 use Rattle.step.specs.declared.Stepped.{Stepped}
 use Rattle.step.specs.Promise.{StepPromise}
@@ -15,7 +15,7 @@ use Rattle.serial.specs.Demand.{Promises, RefusedKeeps, Delivered}
 use Rattle.serial.specs.OnOctets.{Left, StepOn, lent, byValue, onOctets}
 use Rattle.serial.proofs.InTime.{Taken, deliver}
 use Rattle.serial.proofs.Running.{Ok, kept-promises, taken, refused-keeps}
-use Rattle.lentplaces.proofs.EncodeLaws.{same-octets}
+use Rattle.lentzone.proofs.EncodeLaws.{same-octets}
 
 -- What a step by value returned that leaves the same. Each step is one of the zone that the octets hold.
 abbrev returned : Left → Stepped

@@ -8,7 +8,7 @@ use Prim.Native.Nat.{ℕ, _+_, _<_}
 use native.Mathlib.Omega.{arith}
 use lib.Dec.{eqb}
 use borrow.Author.Tests.{eq-eqb}
-use Rattle.zone.specs.Zone.{Zone, Form}
+use Rattle.update.specs.Rules.{Zone, Form}
 use Rattle.job.specs.Jobs.{Arguments, End, Stage, ended}
 use Rattle.serial.specs.Demand.{Verdict, verdict, times, In, Before}
 use Rattle.serial.proofs.RequestLaws.{whole, form-whole}

@@ -10,12 +10,12 @@ use native.Mathlib.Omega.{arith}
 use lib.ListN.{getElem?}
 use Rattle.octets.specs.Compare.{sameOctets}
 use Rattle.dname.specs.Name.{key}
-use Rattle.hosts.specs.Count.{member}
-use Rattle.hosts.specs.Addresses.{mark}
-use Rattle.zone.specs.Zone.{Zone, with, put, heldBy, empty, address, requestA, left, fits, writeB, requestB, removeAddress, removeName}
+use Rattle.octets.specs.Count.{member}
+use Rattle.addresses.specs.Addresses.{mark}
+use Rattle.update.specs.Rules.{Zone, with, put, heldBy, empty, address, requestA, left, fits, writeB, requestB, removeAddress, removeName}
 use Rattle.job.specs.Jobs.{Arguments, End, done, conflict, gone, kept, Stage, ended, fresh, after, afterFirst, afterSecond, step, Sends, hasEnded, sends}
 use Rattle.serial.specs.Demand.{going, times, Story}
-use Rattle.zone.proofs.ZoneLaws.{some≢none}
+use Rattle.update.proofs.ZoneLaws.{some≢none}
 use Rattle.serial.proofs.Demand.{js}
 use Rattle.serial.proofs.Cases.{byRule, pipe, xRemoves, xAdds, oneAddress, xHost, heldByX, form-one, r₃, r₄, between}
 

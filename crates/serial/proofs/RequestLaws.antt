@@ -6,10 +6,10 @@ use Prim.Native.Nat.{ℕ, suc, _<_}
 use lib.Dec.{ltb}
 use borrow.Author.Tests.{ltb-true, ltb-false, lt-ltb}
 use borrow.Table.Steps.{cases}
-use Rattle.zone.specs.Zone.{Host, Zone, Form, put, Update, NXDOMAIN, atName, heldBy, empty, address, newHost, left, fits}
+use Rattle.update.specs.Rules.{Host, Zone, Form, put, Update, NXDOMAIN, atName, heldBy, empty, address, newHost, left, fits}
 use Rattle.job.specs.Jobs.{add, remove, Arguments, End, done, conflict, noRoom, notOurs, gone, kept, Stage, beforeA, beforeB, beforeFirst, beforeSecond, ended, firstStage, fresh, after, afterFirst, afterSecond, State, step, Sends, hasEnded, sends}
 use Rattle.serial.specs.Demand.{Verdict, removed, verdict}
-use Rattle.zone.proofs.ZoneLaws.{some≢none, option-case, put-at, A-new, A-full, A-there, B-absent, B-other, B-full, B-done, remove-address-absent, remove-address-other, remove-address-own, remove-name-absent, remove-name-kept, remove-name-gone}
+use Rattle.update.proofs.ZoneLaws.{some≢none, option-case, put-at, A-new, A-full, A-there, B-absent, B-other, B-full, B-done, remove-address-absent, remove-address-other, remove-address-own, remove-name-absent, remove-name-kept, remove-name-gone}
 use Rattle.request.proofs.RequestLaws.{form-lasts, A-effect, B-effect, remove-address-effect, remove-name-effect}
 
 abbrev pub state : Zone → Stage → State

@@ -1,9 +1,10 @@
 -- The calls that run keep the promises: demand 3, with no parameter left. Assumes nothing.
 use mathlib.Core.Path.{_≡_, sym, _∙_, ap, subst}
 use mathlib.Core.Bool.{true}
-use Rattle.places.specs.declared.survey.Zone.{Zone}
-use Rattle.places.specs.Meaning.{nameOf, isFull, formed}
-use Rattle.zone.specs.Meaning.{zoneOf}
+use Rattle.zone.specs.declared.Zone.{Zone}
+use Rattle.dname.specs.Name.{nameOf, isFull}
+use Rattle.zone.specs.Meaning.{formed}
+use Rattle.update.specs.Meaning.{zoneOf}
 use Rattle.request.proofs.PlaceLaws.{form-of}
 use Rattle.job.specs.declared.job.Job.{Job}
 use Rattle.job.specs.Jobs.{Arguments, possible, fresh}

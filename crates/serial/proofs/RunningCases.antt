@@ -5,11 +5,11 @@ use mathlib.Core.Bool.{true}
 use mathlib.Core.List.{List, [], _∷_}
 use Prim.Native.Nat.{ℕ}
 use lib.ListN.{length}
-use Rattle.places.specs.declared.survey.Zone.{Zone}
-use Rattle.places.specs.Meaning.{formed}
-use Rattle.zone.specs.Zone as rules
-use Rattle.zone.specs.Meaning.{zoneOf}
-use Rattle.lentplaces.specs.Decode.{zoneIn}
+use Rattle.zone.specs.declared.Zone.{Zone}
+use Rattle.zone.specs.Meaning.{formed}
+use Rattle.update.specs.Rules as rules
+use Rattle.update.specs.Meaning.{zoneOf}
+use Rattle.lentzone.specs.Decode.{zoneIn}
 use Rattle.job.specs.declared.job.Job.{Job}
 use Rattle.job.specs.Jobs as jobs
 use Rattle.job.specs.Jobs.{gone, conflict, ended}
@@ -19,7 +19,7 @@ use Rattle.step.specs.Promise.{StepPromise}
 use Rattle.step.specs.Lent.{StepPromiseIn}
 use Rattle.serial.specs.Demand.{Calls, Promises, noJob, oneMore, start, stepped, HeldHaveAddress, Story, Serializable}
 use Rattle.serial.specs.Running.{NewCall, running}
-use Rattle.lentplaces.specs.Encode.{Holds}
+use Rattle.lentzone.specs.Encode.{Holds}
 use Rattle.serial.specs.OnOctets.{lent, byValue, onOctets}
 use Rattle.serial.proofs.Demand.{demand3}
 use Rattle.serial.proofs.InTime.{Taken}

@@ -5,9 +5,9 @@ use mathlib.Core.List.{[], _∷_}
 use Prim.Native.Nat.{suc}
 use lib.Dec.{ltb}
 use borrow.Table.Steps.{cases}
-use Rattle.zone.specs.Zone.{Zone, NXDOMAIN, atName, heldBy, empty, left, fits}
+use Rattle.update.specs.Rules.{Zone, NXDOMAIN, atName, heldBy, empty, left, fits}
 use Rattle.job.specs.Jobs.{Kind, add, remove, Arguments, done, conflict, noRoom, Stage, beforeA, beforeB, beforeFirst, beforeSecond, ended, among, possible, firstStage, fresh, after, State, step}
-use Rattle.zone.proofs.ZoneLaws.{option-case}
+use Rattle.update.proofs.ZoneLaws.{option-case}
 use Rattle.job.proofs.StageLaws.{each-among}
 use Rattle.serial.proofs.RequestLaws.{step-A-new, step-A-full, step-A-there, step-B-absent, step-B-other, step-B-full, step-B-done, step-1-other, step-1-own, step-2-kept, step-2-gone, step-1-absent, step-2-absent}
 

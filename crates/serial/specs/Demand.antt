@@ -7,8 +7,8 @@ use mathlib.Core.Option.{Option, none, some}
 use Prim.Native.Nat.{ℕ, _+_, _≤_, _<_}
 use lib.Dec.{eqb}
 use lib.ListN.{getElem?, set}
-use Rattle.hosts.specs.Count.{Octets}
-use Rattle.zone.specs.Zone.{Host, Zone, Form, empty}
+use Rattle.octets.specs.Count.{Octets}
+use Rattle.update.specs.Rules.{Host, Zone, Form, empty}
 use Rattle.job.specs.Jobs.{Kind, add, remove, Arguments, End, done, conflict, noRoom, gaveUp, notOurs, gone, kept, Stage, beforeA, beforeB, beforeFirst, beforeSecond, ended, Job, fresh, step, Sends, sent}
 
 -- The public calls: the zone and the job that a program holds, and what they mean; what a job step returns; and what is known of a call that

@@ -5,11 +5,11 @@ use mathlib.Core.Bool.{true}
 use mathlib.Core.List.{List}
 use Prim.Native.Nat.{ℕ}
 use lib.ListN.{length}
-use Rattle.places.specs.declared.survey.Zone.{Zone}
-use Rattle.places.specs.Meaning.{formed}
-use Rattle.zone.specs.Meaning.{zoneOf}
-use Rattle.lentplaces.specs.Decode.{zoneIn}
-use Rattle.lentplaces.specs.Encode.{Holds}
+use Rattle.zone.specs.declared.Zone.{Zone}
+use Rattle.zone.specs.Meaning.{formed}
+use Rattle.update.specs.Meaning.{zoneOf}
+use Rattle.lentzone.specs.Decode.{zoneIn}
+use Rattle.lentzone.specs.Encode.{Holds}
 use Rattle.job.specs.declared.job.Job.{Job}
 use Rattle.job.specs.Meaning.{jobOf}
 use Rattle.step.specs.declared.Stepped.{Stepped}

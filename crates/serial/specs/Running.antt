@@ -2,13 +2,13 @@
 use mathlib.Core.Path.{_≡_}
 use mathlib.Core.Bool.{true}
 use Prim.Native.Nat.{ℕ}
-use Rattle.places.specs.declared.name.Name.{Name}
-use Rattle.places.specs.declared.entry.Dhcid.{Dhcid}
-use Rattle.places.specs.declared.entry.Address.{Address}
-use Rattle.places.specs.declared.survey.Zone.{Zone}
-use Rattle.zone.specs.Zone.{keepOthers}
-use Rattle.places.specs.Meaning.{formed}
-use Rattle.zone.specs.Meaning.{zoneOf, policyOf, updateOf}
+use Rattle.dname.specs.declared.name.Name.{Name}
+use Rattle.zone.specs.declared.entry.Dhcid.{Dhcid}
+use Rattle.zone.specs.declared.entry.Address.{Address}
+use Rattle.zone.specs.declared.Zone.{Zone}
+use Rattle.update.specs.Rules.{keepOthers}
+use Rattle.zone.specs.Meaning.{formed}
+use Rattle.update.specs.Meaning.{zoneOf, policyOf, updateOf}
 use Rattle.job.specs.declared.job.Job.{Job}
 use Rattle.job.specs.declared.fresh.NewJob.{NewJob}
 use Rattle.job.specs.Jobs.{Arguments, add, remove}

@@ -4,9 +4,10 @@ use mathlib.Core.Bool.{Bool, true, false, cond}
 use Prim.Native.Nat.{ℕ}
 use native.Mathlib.Omega.{arith}
 use Rattle.octets.proofs.BoolLaws.{and-left}
-use Rattle.places.specs.declared.survey.Zone.{Zone}
-use Rattle.places.specs.Meaning.{nameOf, isFull, formed}
-use Rattle.zone.specs.Meaning.{listed, policyOf, updateOf, zoneOf}
+use Rattle.zone.specs.declared.Zone.{Zone}
+use Rattle.dname.specs.Name.{nameOf, isFull}
+use Rattle.zone.specs.Meaning.{formed}
+use Rattle.update.specs.Meaning.{listed, policyOf, updateOf, zoneOf}
 use Rattle.job.specs.declared.job.Job.{Job}
 use Rattle.job.specs.Jobs.{add, remove, possible, step}
 use Rattle.job.specs.Meaning.{stageNumber, stageOf, canHave, isAdd, argumentsOf, jobOf, atStage, numbersListed}

@@ -5,12 +5,12 @@ use mathlib.Core.List.{List}
 use Prim.Native.Nat.{ℕ}
 use native.Mathlib.Omega.{arith}
 use borrow.Author.Tests.{ne-eqb}
-use Rattle.places.specs.Meaning.{nameOf}
-use Rattle.zone.specs.Zone as rules
-use Rattle.zone.specs.Zone.{Answer, Outcome}
-use Rattle.zone.specs.Meaning.{listed, zoneOf}
-use Rattle.lentplaces.specs.Decode.{zoneIn}
-use Rattle.lentplaces.proofs.DecodeLaws.{one-place-same}
+use Rattle.dname.specs.Name.{nameOf}
+use Rattle.update.specs.Rules as rules
+use Rattle.update.specs.Rules.{Answer, Outcome}
+use Rattle.update.specs.Meaning.{listed, zoneOf}
+use Rattle.lentzone.specs.Decode.{zoneIn}
+use Rattle.lentzone.proofs.DecodeLaws.{one-place-same}
 use Rattle.request.specs.declared.lent.RequestAnswer.{RequestAnswer}
 use Rattle.request.specs.Promise.{Promised}
 use Rattle.request.specs.Lent.{refusalIn, answered, PromisedIn}

@@ -8,13 +8,14 @@ use native.Mathlib.Omega.{arith}
 use lib.Dec.{leb}
 use borrow.Author.Tests.{eq-eqb, ne-eqb, lt-leb}
 use Rattle.octets.proofs.BoolLaws.{and-left, and-right}
-use Rattle.places.specs.declared.survey.Zone.{Zone}
+use Rattle.zone.specs.declared.Zone.{Zone}
 use Rattle.request.specs.declared.Answered.{Answered}
-use Rattle.zone.specs.Zone.{Answer, Outcome, requestA, requestB, removeAddress, removeName}
-use Rattle.places.specs.Meaning.{nameOf, formed}
-use Rattle.zone.specs.Meaning.{listed, policyOf, updateOf, zoneOf}
+use Rattle.update.specs.Rules.{Answer, Outcome, requestA, requestB, removeAddress, removeName}
+use Rattle.dname.specs.Name.{nameOf}
+use Rattle.zone.specs.Meaning.{formed}
+use Rattle.update.specs.Meaning.{listed, policyOf, updateOf, zoneOf}
 use Rattle.request.specs.Promise.{refusalOf, numberOf, Promised}
-use Rattle.zone.proofs.NumberLaws.{listed-zero}
+use Rattle.update.proofs.NumberLaws.{listed-zero}
 use Rattle.request.proofs.PromiseLaws.{refusal-listed, says-17, not-17}
 use Rattle.job.specs.declared.job.Job.{Job}
 use Rattle.job.specs.Jobs.{Stage, ended, End, done, conflict, noRoom, gaveUp, notOurs, gone, kept, State, goesOn, after, afterFirst, afterSecond, step}

@@ -3,8 +3,8 @@ use mathlib.Core.Path.{_≡_}
 use mathlib.Core.List.{List}
 use Prim.Native.Nat.{ℕ}
 use lib.ListN.{length}
-use Rattle.zone.specs.Meaning.{zoneOf}
-use Rattle.lentplaces.specs.Decode.{zoneIn, OnePlace}
+use Rattle.update.specs.Meaning.{zoneOf}
+use Rattle.lentzone.specs.Decode.{zoneIn, OnePlace}
 use Rattle.job.specs.declared.job.Job.{Job}
 use Rattle.step.specs.declared.Stepped.{Stepped}
 use Rattle.step.specs.declared.lent.StepAnswer.{StepAnswer}

@@ -2,9 +2,10 @@
 use mathlib.Core.Path.{_≡_}
 use mathlib.Core.Bool.{true, cond}
 use Prim.Native.Nat.{ℕ}
-use Rattle.places.specs.declared.survey.Zone.{Zone}
-use Rattle.places.specs.Meaning.{nameOf, isFull, formed}
-use Rattle.zone.specs.Meaning.{zoneOf}
+use Rattle.zone.specs.declared.Zone.{Zone}
+use Rattle.dname.specs.Name.{nameOf, isFull}
+use Rattle.zone.specs.Meaning.{formed}
+use Rattle.update.specs.Meaning.{zoneOf}
 use Rattle.job.specs.declared.job.Job.{Job}
 use Rattle.job.specs.Jobs.{State, step}
 use Rattle.job.specs.Meaning.{argumentsOf, stageOf, atStage, numbersListed}

@@ -1,5 +1,4 @@
--- Laws that belong to no one function. Crates above cite the definitions through these.
-pub mod ZoneLaws
-pub mod BareLaws
-pub mod PrerequisiteLaws
-pub mod NumberLaws
+-- Laws that belong to no one function.
+pub mod FingerprintLaws
+pub mod SurveyLaws
+pub mod WalkLaws

@@ -1,4 +1,4 @@
--- The rules, on the zone as names, owners and address sets.
-pub mod Zone
--- What the structs mean, and the numbers of a request.
+-- What names and the places of a zone mean, and their form.
 pub mod Meaning
+-- For the contracts of the walk; no public promise cites these.
+pub mod Survey

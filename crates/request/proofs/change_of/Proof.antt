@@ -1,7 +1,7 @@
 use mathlib.Core.Path.{subst}
-use Rattle.places.specs.declared.name.Name.{Name}
-use Rattle.zone.specs.Zone.{Zone, Outcome}
-use Rattle.zone.specs.Meaning.{updateOf}
+use Rattle.dname.specs.declared.name.Name.{Name}
+use Rattle.update.specs.Rules.{Zone, Outcome}
+use Rattle.update.specs.Meaning.{updateOf}
 use Rattle.request.specs.Inner.{Decides}
 use Rattle.request.proofs.DecideLaws.{is-B, is-first, is-second}
 use borrow.Author.Needs.{needs}

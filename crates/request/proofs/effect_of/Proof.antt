@@ -1,5 +1,5 @@
-use Rattle.places.specs.Meaning.{nameOf}
-use Rattle.zone.specs.Meaning.{updateOf}
+use Rattle.dname.specs.Name.{nameOf}
+use Rattle.update.specs.Meaning.{updateOf}
 use Rattle.request.specs.Inner.{requestOf}
 use Rattle.request.proofs.PromiseLaws.{promise-refused, promise-visited}
 use borrow.Author.Needs.{needs}

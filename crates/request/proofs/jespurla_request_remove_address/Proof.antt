@@ -1,7 +1,7 @@
 use mathlib.Core.Path.{refl}
-use Rattle.zone.specs.Zone.{removeAddress}
-use Rattle.places.specs.Meaning.{nameOf}
-use Rattle.zone.specs.Meaning.{updateOf}
+use Rattle.update.specs.Rules.{removeAddress}
+use Rattle.dname.specs.Name.{nameOf}
+use Rattle.update.specs.Meaning.{updateOf}
 use Rattle.request.specs.Inner.{requestOf}
 use Rattle.request.proofs.PromiseLaws.{promise-same}
 use borrow.Author.Needs.{needs}

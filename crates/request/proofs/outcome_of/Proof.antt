@@ -1,4 +1,4 @@
-use Rattle.zone.specs.Meaning.{updateOf}
+use Rattle.update.specs.Meaning.{updateOf}
 use Rattle.request.specs.Inner.{requestOf}
 use Rattle.request.proofs.PromiseLaws.{comes-adds, comes-decides}
 use Rattle.request.proofs.DecideLaws.{is-A}

@@ -1,7 +1,7 @@
 use mathlib.Core.Bool.{true≢false}
 use mathlib.Core.Path.{refl, sym, _∙_}
 use borrow.Author.Tests.{not-true, not-false}
-use Rattle.places.proofs.PrintLaws.{prefix-length}
+use Rattle.zone.proofs.FingerprintLaws.{prefix-length}
 use Rattle.request.proofs.PromiseLaws.{refused-order, refused-names, refused-number, refused-name, refused-nothing}
 use borrow.Author.Needs.{needs}
 use Rattle.request.proofs.refusal.Statement.{statement}
@@ -19,17 +19,17 @@ is-listed-requires c κs = search needs
 returns-3 : tie.Need-returns-3
 returns-3 c = record { refuses = λ z v. refused-number z _ _ _ _ (v .places .placesAre) (v .places .orderIs) _ (v .distinctIs) (not-false _ (c .before .before .before .before .if1 .left)) (not-false _ (c .before .before .if2 .left)) (sym (c .before .is-listed .ensures) ∙ not-true _ (c .if3 .taken)); broken = λ b. absurd (true≢false (sym (not-false _ (c .before .before .before .before .if1 .left)) ∙ b)) }
 
-slice-aggregate-is-full-in : tie.Need-slice-aggregate-is-full-in
-slice-aggregate-is-full-in c = prefix-length _ _ (search needs)
+slice-aggregate-is-full-name : tie.Need-slice-aggregate-is-full-name
+slice-aggregate-is-full-name c = prefix-length _ _ (search needs)
 
-is-full-in-requires : tie.Need-is-full-in-requires
-is-full-in-requires c κs = search needs
+is-full-name-requires : tie.Need-is-full-name-requires
+is-full-name-requires c κs = search needs
 
 returns-4 : tie.Need-returns-4
-returns-4 c = record { refuses = λ z v. refused-name z _ _ _ _ (v .places .placesAre) (v .places .orderIs) _ (v .distinctIs) (not-false _ (c .before .before .before .before .before .before .before .if1 .left)) (not-false _ (c .before .before .before .before .before .if2 .left)) (sym (c .before .before .before .before .is-listed .ensures) ∙ not-false _ (c .before .before .before .if3 .left)) (sym (c .before .is-full-in .ensures) ∙ not-true _ (c .if4 .taken)); broken = λ b. absurd (true≢false (sym (not-false _ (c .before .before .before .before .before .before .before .if1 .left)) ∙ b)) }
+returns-4 c = record { refuses = λ z v. refused-name z _ _ _ _ (v .places .placesAre) (v .places .orderIs) _ (v .distinctIs) (not-false _ (c .before .before .before .before .before .before .before .if1 .left)) (not-false _ (c .before .before .before .before .before .if2 .left)) (sym (c .before .before .before .before .is-listed .ensures) ∙ not-false _ (c .before .before .before .if3 .left)) (sym (c .before .is-full-name .ensures) ∙ not-true _ (c .if4 .taken)); broken = λ b. absurd (true≢false (sym (not-false _ (c .before .before .before .before .before .before .before .if1 .left)) ∙ b)) }
 
 returns-5 : tie.Need-returns-5
-returns-5 c = record { refuses = λ z v. refused-nothing z _ _ _ _ (v .places .placesAre) (v .places .orderIs) _ (v .distinctIs) (not-false _ (c .before .before .before .before .before .before .before .if1 .left)) (not-false _ (c .before .before .before .before .before .if2 .left)) (sym (c .before .before .before .before .is-listed .ensures) ∙ not-false _ (c .before .before .before .if3 .left)) (sym (c .before .is-full-in .ensures) ∙ not-false _ (c .if4 .left)); broken = λ b. absurd (true≢false (sym (not-false _ (c .before .before .before .before .before .before .before .if1 .left)) ∙ b)) }
+returns-5 c = record { refuses = λ z v. refused-nothing z _ _ _ _ (v .places .placesAre) (v .places .orderIs) _ (v .distinctIs) (not-false _ (c .before .before .before .before .before .before .before .if1 .left)) (not-false _ (c .before .before .before .before .before .if2 .left)) (sym (c .before .before .before .before .is-listed .ensures) ∙ not-false _ (c .before .before .before .if3 .left)) (sym (c .before .is-full-name .ensures) ∙ not-false _ (c .if4 .left)); broken = λ b. absurd (true≢false (sym (not-false _ (c .before .before .before .before .before .before .before .if1 .left)) ∙ b)) }
 
 pub refusal-spec : {M : Type 1} → statement M
 refusal-spec =
@@ -39,7 +39,7 @@ refusal-spec =
     returns-2
     is-listed-requires
     returns-3
-    slice-aggregate-is-full-in
-    is-full-in-requires
+    slice-aggregate-is-full-name
+    is-full-name-requires
     returns-4
     returns-5)

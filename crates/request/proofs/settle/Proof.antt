@@ -1,5 +1,5 @@
 use mathlib.Core.Path.{ap}
-use Rattle.places.specs.declared.survey.Zone.{Zone}
+use Rattle.zone.specs.declared.Zone.{Zone}
 use borrow.Author.Needs.{needs}
 use Rattle.request.proofs.settle.Statement.{statement}
 use Rattle.request.proofs.settle.Tie as tie

@@ -1,6 +1,6 @@
 use mathlib.Core.Path.{sym}
 use native.Mathlib.Omega.{arith}
-use Rattle.places.proofs.SurveyLaws.{places}
+use Rattle.zone.proofs.SurveyLaws.{places}
 use Rattle.request.proofs.PromiseLaws.{no-place}
 use borrow.Author.Needs.{needs}
 use Rattle.request.proofs.written.Statement.{statement}

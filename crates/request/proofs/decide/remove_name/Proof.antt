@@ -2,7 +2,7 @@ use mathlib.Core.Path.{refl, sym, _∙_, ap}
 use mathlib.Core.Bool.{Bool, _&&_}
 use native.Mathlib.Omega.{arith}
 use borrow.Author.Tests.{not-true, not-false}
-use Rattle.zone.specs.Zone.{empty}
+use Rattle.update.specs.Rules.{empty}
 use Rattle.request.specs.Inner.{hostAt}
 use Rattle.request.proofs.DecideLaws.{name-absent, name-kept, name-gone}
 use borrow.Author.Needs.{needs}

@@ -1,9 +1,9 @@
 use mathlib.Core.Path.{sym, _∙_, ap}
 use mathlib.Core.Bool.{Bool, _&&_}
 use borrow.Author.Tests.{not-true, not-false}
-use Rattle.hosts.specs.Addresses.{Family}
-use Rattle.zone.specs.Zone.{ownFamily}
-use Rattle.zone.specs.Meaning.{policyOf}
+use Rattle.addresses.specs.Addresses.{Family}
+use Rattle.update.specs.Rules.{ownFamily}
+use Rattle.update.specs.Meaning.{policyOf}
 use Rattle.request.specs.Inner.{hostAt, alone}
 use borrow.Author.Needs.{needs}
 use Rattle.request.proofs.host.already_added.Statement.{statement}

@@ -1,5 +1,5 @@
 use Rattle.request.proofs.HostLaws.{kept-empty}
-use Rattle.places.specs.Survey.{placeOf}
+use Rattle.zone.specs.Survey.{placeOf}
 use borrow.Author.Needs.{needs}
 use Rattle.request.proofs.host.clear_all.Statement.{statement}
 use Rattle.request.proofs.host.clear_all.Tie as tie

@@ -1,9 +1,9 @@
 use mathlib.Core.Path.{sym, ap}
-use Rattle.hosts.specs.Addresses.{Family, nothing}
-use Rattle.zone.specs.Zone.{with}
-use Rattle.zone.specs.Meaning.{hostOf}
+use Rattle.addresses.specs.Addresses.{Family, nothing}
+use Rattle.update.specs.Rules.{with}
+use Rattle.update.specs.Meaning.{hostOf}
 use Rattle.request.proofs.HostLaws.{kept4, kept6, kept-to, set-nothing, sound-nothing, family-four, family-six}
-use Rattle.places.specs.Survey.{placeOf}
+use Rattle.zone.specs.Survey.{placeOf}
 use borrow.Author.Needs.{needs}
 use Rattle.request.proofs.host.clear_family.Statement.{statement}
 use Rattle.request.proofs.host.clear_family.Tie as tie

@@ -1,5 +1,5 @@
 use Rattle.request.proofs.HostLaws.{count4-by, count6-by}
-use Rattle.places.specs.Survey.{placeOf}
+use Rattle.zone.specs.Survey.{placeOf}
 use borrow.Author.Needs.{needs}
 use Rattle.request.proofs.host.count_of.Statement.{statement}
 use Rattle.request.proofs.host.count_of.Tie as tie

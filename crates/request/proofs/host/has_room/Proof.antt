@@ -1,7 +1,7 @@
 use mathlib.Core.Path.{sym, _∙_}
-use Rattle.hosts.specs.Addresses.{four, six}
+use Rattle.addresses.specs.Addresses.{four, six}
 use Rattle.request.proofs.HostLaws.{means4, means6, fits-by}
-use Rattle.places.specs.Survey.{placeOf}
+use Rattle.zone.specs.Survey.{placeOf}
 use borrow.Author.Needs.{needs}
 use Rattle.request.proofs.host.has_room.Statement.{statement}
 use Rattle.request.proofs.host.has_room.Tie as tie

@@ -2,8 +2,8 @@ use mathlib.Core.Path.{_≡_, _∙_, ap}
 use Prim.Native.Nat.{ℕ, _+_}
 use native.Mathlib.Omega.{arith}
 use lib.Dec.{eqb}
-use Rattle.hosts.specs.Addresses.{four, six}
-use Rattle.zone.specs.Meaning.{familyOf}
+use Rattle.addresses.specs.Addresses.{four, six}
+use Rattle.update.specs.Meaning.{familyOf}
 use Rattle.request.specs.Inner.{hostAt}
 use Rattle.request.proofs.HostLaws.{alone-keep, alone-family, alone-name}
 use borrow.Author.Needs.{needs}

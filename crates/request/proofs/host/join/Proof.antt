@@ -1,5 +1,5 @@
 use Rattle.request.proofs.HostLaws.{means4, means6, joined4, joined6}
-use Rattle.places.specs.Survey.{placeOf}
+use Rattle.zone.specs.Survey.{placeOf}
 use borrow.Author.Needs.{needs}
 use Rattle.request.proofs.host.join.Statement.{statement}
 use Rattle.request.proofs.host.join.Tie as tie

@@ -1,5 +1,5 @@
 use Rattle.request.proofs.HostLaws.{kept-same, kept-to, makes-to, left-all, left-others, left-none}
-use Rattle.places.specs.Survey.{placeOf}
+use Rattle.zone.specs.Survey.{placeOf}
 use borrow.Author.Needs.{needs}
 use Rattle.request.proofs.host.leave.Statement.{statement}
 use Rattle.request.proofs.host.leave.Tie as tie

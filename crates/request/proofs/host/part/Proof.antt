@@ -1,5 +1,5 @@
 use Rattle.request.proofs.HostLaws.{means4, means6, parted4, parted6}
-use Rattle.places.specs.Survey.{placeOf}
+use Rattle.zone.specs.Survey.{placeOf}
 use borrow.Author.Needs.{needs}
 use Rattle.request.proofs.host.part.Statement.{statement}
 use Rattle.request.proofs.host.part.Tie as tie

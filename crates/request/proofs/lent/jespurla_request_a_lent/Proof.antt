@@ -1,6 +1,6 @@
-use Rattle.places.specs.Meaning.{nameOf}
-use Rattle.zone.specs.Zone.{requestA}
-use Rattle.zone.specs.Meaning.{updateOf}
+use Rattle.dname.specs.Name.{nameOf}
+use Rattle.update.specs.Rules.{requestA}
+use Rattle.update.specs.Meaning.{updateOf}
 use Rattle.request.proofs.LentLaws.{refused-in, promised-refused, promised-adds}
 use borrow.Author.Needs.{needs}
 use Rattle.request.proofs.lent.jespurla_request_a_lent.Statement.{statement}

@@ -1,7 +1,7 @@
 use mathlib.Core.Path.{refl}
-use Rattle.places.specs.Meaning.{nameOf}
-use Rattle.zone.specs.Zone.{requestB}
-use Rattle.zone.specs.Meaning.{policyOf, updateOf}
+use Rattle.dname.specs.Name.{nameOf}
+use Rattle.update.specs.Rules.{requestB}
+use Rattle.update.specs.Meaning.{policyOf, updateOf}
 use Rattle.request.specs.Inner.{requestOf}
 use Rattle.request.proofs.LentLaws.{promised-same}
 use borrow.Author.Needs.{needs}

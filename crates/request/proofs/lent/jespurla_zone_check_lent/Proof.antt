@@ -1,4 +1,4 @@
-use Rattle.places.specs.Meaning.{nameOf}
+use Rattle.dname.specs.Name.{nameOf}
 use Rattle.request.proofs.LentLaws.{refused-in}
 use borrow.Author.Needs.{needs}
 use Rattle.request.proofs.lent.jespurla_zone_check_lent.Statement.{statement}

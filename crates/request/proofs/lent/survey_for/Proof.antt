@@ -1,4 +1,4 @@
-use Rattle.places.proofs.PrintLaws.{prefix-length}
+use Rattle.zone.proofs.FingerprintLaws.{prefix-length}
 use borrow.Author.Needs.{needs}
 use Rattle.request.proofs.lent.survey_for.Statement.{statement}
 use Rattle.request.proofs.lent.survey_for.Tie as tie

@@ -1,9 +1,9 @@
 use Rattle.step.proofs.LentLaws.{kept-in}
 use Rattle.step.proofs.StepLaws.{count-a, numbers-zero, step-at-a}
 use Rattle.job.specs.Jobs.{after}
-use Rattle.zone.specs.Zone.{requestA}
-use Rattle.lentplaces.specs.Decode.{zoneIn}
-use Rattle.zone.specs.Meaning.{updateOf}
+use Rattle.update.specs.Rules.{requestA}
+use Rattle.lentzone.specs.Decode.{zoneIn}
+use Rattle.update.specs.Meaning.{updateOf}
 use native.Mathlib.Omega.{arith}
 use Prim.Native.Nat.{_+_, _<_}
 use borrow.Author.Needs.{needs}

@@ -1,9 +1,9 @@
 use Rattle.step.proofs.LentLaws.{kept-in}
 use Rattle.step.proofs.StepLaws.{count-b, numbers-policy, step-at-b}
 use Rattle.job.specs.Jobs.{after}
-use Rattle.zone.specs.Zone.{requestB}
-use Rattle.lentplaces.specs.Decode.{zoneIn}
-use Rattle.zone.specs.Meaning.{updateOf, policyOf}
+use Rattle.update.specs.Rules.{requestB}
+use Rattle.lentzone.specs.Decode.{zoneIn}
+use Rattle.update.specs.Meaning.{updateOf, policyOf}
 use native.Mathlib.Omega.{arith}
 use Prim.Native.Nat.{_+_, _<_}
 use borrow.Author.Needs.{needs}

@@ -1,9 +1,9 @@
 use Rattle.step.proofs.LentLaws.{kept-in}
 use Rattle.step.proofs.StepLaws.{numbers-zero, step-at-first}
 use Rattle.job.specs.Jobs.{afterFirst}
-use Rattle.zone.specs.Zone.{removeAddress}
-use Rattle.lentplaces.specs.Decode.{zoneIn}
-use Rattle.zone.specs.Meaning.{updateOf}
+use Rattle.update.specs.Rules.{removeAddress}
+use Rattle.lentzone.specs.Decode.{zoneIn}
+use Rattle.update.specs.Meaning.{updateOf}
 use borrow.Author.Needs.{needs}
 use Rattle.step.proofs.lent.step_first.Statement.{statement}
 use Rattle.step.proofs.lent.step_first.Tie as tie

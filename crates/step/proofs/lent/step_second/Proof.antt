@@ -1,9 +1,9 @@
 use Rattle.step.proofs.LentLaws.{kept-in}
 use Rattle.step.proofs.StepLaws.{numbers-zero, step-at-second}
 use Rattle.job.specs.Jobs.{afterSecond}
-use Rattle.zone.specs.Zone.{removeName}
-use Rattle.lentplaces.specs.Decode.{zoneIn}
-use Rattle.zone.specs.Meaning.{updateOf}
+use Rattle.update.specs.Rules.{removeName}
+use Rattle.lentzone.specs.Decode.{zoneIn}
+use Rattle.update.specs.Meaning.{updateOf}
 use borrow.Author.Needs.{needs}
 use Rattle.step.proofs.lent.step_second.Statement.{statement}
 use Rattle.step.proofs.lent.step_second.Tie as tie

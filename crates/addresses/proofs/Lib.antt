@@ -1,0 +1,3 @@
+-- Laws that belong to no one function. Crates above cite the definitions through these.
+pub mod PartLaws
+pub mod SetLaws

@@ -1,0 +1,91 @@
+-- The laws of address sets: what the structs' writes come to, whichever the family. Assumes nothing.
+use mathlib.Core.Path.{_≡_, refl, sym, _∙_, ap, fun-ext}
+use mathlib.Core.Bool.{Bool, true, false, cond, _||_, true≢false}
+use mathlib.Core.List.{List, [], _∷_, _++_}
+use Prim.Native.Nat.{ℕ, _≤_, _<_}
+use lib.Dec.{leb, ltb}
+use lib.ListN.{length}
+use borrow.Author.Tests.{leb-true, le-leb, lt-leb, ltb-true, lt-ltb, le-ltb}
+use Rattle.octets.proofs.BoolLaws.{and-left, and-right}
+use Rattle.octets.specs.Compare.{sameOctets}
+use Rattle.octets.specs.Count.{Octets, member, distinct, Counts, without}
+use Rattle.addresses.specs.Addresses.{Addresses, mark, setOf, sound, joined}
+use Rattle.octets.proofs.CountLaws.{same-dec, same-yes, same-no, member-last, member-without, distinct-last, distinct-without, counts-eq, counts-list, counts-mark}
+
+-- sets with the same addresses are equal: their counts follow
+pub set-eq : (s t : Addresses) → Counts (s .count) (s .has) → Counts (t .count) (t .has) → ((a : Octets) → s .has a ≡ t .has a) → s ≡ t
+set-eq s t c d e =
+    let n : s .count ≡ t .count = counts-eq c d e in
+    let f : s .has ≡ t .has = fun-ext e in
+    λ i. record { count = n i; has = f i }
+
+-- an address put in or taken out, however the places change
+pub marked : (a : Octets) (v : Bool) (l m : List Octets) → distinct l ≡ true → distinct m ≡ true
+    → ((b : Octets) → member b m ≡ cond (sameOctets a b) v (member b l)) → setOf m ≡ mark a v (setOf l)
+unfolding mark
+marked a v l m d e f = set-eq (setOf m) (mark a v (setOf l)) (counts-list m e) (counts-mark a v (counts-list l d)) f
+
+-- ---- the form
+
+pub sound-few : (count : ℕ) (l : List Octets) → sound count l ≡ true → count ≤ 4
+unfolding sound
+sound-few count l h = leb-true count 4 (and-left (leb count 4) (distinct l) h)
+
+pub sound-once : (count : ℕ) (l : List Octets) → sound count l ≡ true → distinct l ≡ true
+unfolding sound
+sound-once count l h = and-right (leb count 4) (distinct l) h
+
+pub sound-both : (count : ℕ) (l : List Octets) → count ≤ 4 → distinct l ≡ true → sound count l ≡ true
+unfolding sound
+sound-both count l h d = rw (le-leb count 4 h, d)
+
+pub sound-many : (count : ℕ) (l : List Octets) → 4 < count → sound count l ≡ false
+unfolding sound
+sound-many count l h = rw (lt-leb count 4 h)
+
+pub sound-rest : (count : ℕ) (l : List Octets) → count ≤ 4 → sound count l ≡ distinct l
+unfolding sound
+sound-rest count l h = rw (le-leb count 4 h)
+
+-- ---- an address more
+
+pub joined-there : (a : Octets) (l : List Octets) → member a l ≡ true → joined a l ≡ l
+unfolding joined
+joined-there a l m = rw m
+
+pub joined-full : (a : Octets) (l : List Octets) → member a l ≡ false → 4 ≤ length l → joined a l ≡ l
+unfolding joined
+joined-full a l m h = rw (m, le-ltb (length l) 4 h)
+
+pub joined-new : (a : Octets) (l : List Octets) → member a l ≡ false → length l < 4 → joined a l ≡ l ++ (a ∷ [])
+unfolding joined
+joined-new a l m h = rw (m, lt-ltb (length l) 4 h)
+
+-- where there is room, it is the set with the address
+module _ (a : Octets) (l : List Octets) (d : distinct l ≡ true) where
+  pub joined-once : distinct (joined a l) ≡ true
+  unfolding joined
+  joined-once = go (member a l) (ltb (length l) 4) refl
+    where
+      go : (v w : Bool) → member a l ≡ v → distinct (cond v l (cond w (l ++ (a ∷ [])) l)) ≡ true
+      go true w e = d
+      go false true e = distinct-last l a d e
+      go false false e = d
+
+  there : (b : Octets) → member a l ≡ true → member b l ≡ cond (sameOctets a b) true (member b l)
+  there b m = go (same-dec a b)
+    where
+      go : Dec (a ≡ b) → member b l ≡ cond (sameOctets a b) true (member b l)
+      go (yes r) = rw (same-yes a b r) (ap (λ (u : Octets). member u l) (sym r) ∙ m)
+      go (no r) = rw (same-no a b r) refl
+
+  pub joined-mark : (member a l || ltb (length l) 4) ≡ true → setOf (joined a l) ≡ mark a true (setOf l)
+  joined-mark room = marked a true l (joined a l) d joined-once (λ b. go (member a l) refl b (ltb (length l) 4) refl room)
+    where
+      go : (v : Bool) → member a l ≡ v → (b : Octets) (w : Bool) → ltb (length l) 4 ≡ w → (v || w) ≡ true → member b (joined a l) ≡ cond (sameOctets a b) true (member b l)
+      go true e b w f r = ap (member b) (joined-there a l e) ∙ there b e
+      go false e b true f r = ap (member b) (joined-new a l e (ltb-true (length l) 4 f)) ∙ member-last l a b
+      go false e b false f r = absurd (true≢false (sym r))
+
+  pub without-mark : setOf (without a l) ≡ mark a false (setOf l)
+  without-mark = marked a false l (without a l) d (distinct-without a l d) (λ b. member-without a b l)

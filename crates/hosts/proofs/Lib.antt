@@ -1,4 +1,0 @@
--- Laws that belong to no one function. Crates above cite the definitions through these.
-pub mod CountLaws
-pub mod PartLaws
-pub mod SetLaws

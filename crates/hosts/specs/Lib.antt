@@ -1,3 +1,0 @@
--- The definitions that the contracts cite.
-pub mod Count
-pub mod Addresses
