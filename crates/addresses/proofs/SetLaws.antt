@@ -1,16 +1,17 @@
 -- The laws of address sets: what the structs' writes come to, whichever the family. Assumes nothing.
-use mathlib.Core.Path.{_≡_, refl, sym, _∙_, ap, fun-ext}
-use mathlib.Core.Bool.{Bool, true, false, cond, _||_, true≢false}
+use mathlib.Core.Path.{_≡_, refl, sym, _∙_, ap, subst, fun-ext}
+use mathlib.Core.Bool.{Bool, true, false, cond, not, _&&_, _||_, true≢false}
 use mathlib.Core.List.{List, [], _∷_, _++_}
-use Prim.Native.Nat.{ℕ, _≤_, _<_}
+use Prim.Native.Nat.{ℕ, _+_, _-_, _≤_, _<_}
+use native.Mathlib.Omega.{arith}
 use lib.Dec.{leb, ltb}
 use lib.ListN.{length}
 use borrow.Author.Tests.{leb-true, le-leb, lt-leb, ltb-true, lt-ltb, le-ltb}
 use Rattle.octets.proofs.BoolLaws.{and-left, and-right}
 use Rattle.octets.specs.Compare.{sameOctets}
 use Rattle.octets.specs.Count.{Octets, member, distinct, Counts, without}
-use Rattle.addresses.specs.Addresses.{Addresses, mark, setOf, sound, joined}
-use Rattle.octets.proofs.CountLaws.{same-dec, same-yes, same-no, member-last, member-without, distinct-last, distinct-without, counts-eq, counts-list, counts-mark}
+use Rattle.addresses.specs.Addresses.{Addresses, including, excluding, setOf, sound, joined}
+use Rattle.octets.proofs.CountLaws.{same-dec, same-yes, same-no, member-last, member-without, distinct-last, distinct-without, counts-eq, counts-list, counts-ext, one, counts-mark}
 
 -- sets with the same addresses are equal: their counts follow
 pub set-eq : (s t : Addresses) → Counts (s .count) (s .has) → Counts (t .count) (t .has) → ((a : Octets) → s .has a ≡ t .has a) → s ≡ t
@@ -19,11 +20,45 @@ set-eq s t c d e =
     let f : s .has ≡ t .has = fun-ext e in
     λ i. record { count = n i; has = f i }
 
+-- ---- a set with an address in it, or without it: one name for both, by which laws speak of both
+
+abbrev pub mark : Octets → Bool → Addresses → Addresses
+mark a true s = including a s
+mark a false s = excluding a s
+
+pub mark-has : (a : Octets) (v : Bool) (s : Addresses) (b : Octets) → mark a v s .has b ≡ cond (sameOctets a b) v (s .has b)
+mark-has a true s b = unfold including in go (sameOctets a b)
+  where
+    go : (t : Bool) → (t || s .has b) ≡ cond t true (s .has b)
+    go true = refl
+    go false = refl
+mark-has a false s b = unfold excluding in go (sameOctets a b)
+  where
+    go : (t : Bool) → (not t && s .has b) ≡ cond t false (s .has b)
+    go true = refl
+    go false = refl
+
+pub mark-count : (a : Octets) (v : Bool) (s : Addresses) → mark a v s .count ≡ (s .count + one v) - one (s .has a)
+mark-count a true s = unfold including in go (s .has a)
+  where
+    go : (t : Bool) → cond t (s .count) (s .count + 1) ≡ (s .count + 1) - one t
+    go true = omega arith
+    go false = omega arith
+mark-count a false s = unfold excluding in go (s .has a)
+  where
+    go : (t : Bool) → cond t (s .count - 1) (s .count) ≡ (s .count + 0) - one t
+    go true = omega arith
+    go false = omega arith
+
+pub mark-counts : (a : Octets) (v : Bool) (s : Addresses) → Counts (s .count) (s .has) → Counts (mark a v s .count) (mark a v s .has)
+mark-counts a v s c =
+    subst (λ (n : ℕ). Counts n (mark a v s .has)) (sym (mark-count a v s)) (counts-ext (λ b. sym (mark-has a v s b)) (counts-mark a v c))
+
 -- an address put in or taken out, however the places change
 pub marked : (a : Octets) (v : Bool) (l m : List Octets) → distinct l ≡ true → distinct m ≡ true
     → ((b : Octets) → member b m ≡ cond (sameOctets a b) v (member b l)) → setOf m ≡ mark a v (setOf l)
-unfolding mark
-marked a v l m d e f = set-eq (setOf m) (mark a v (setOf l)) (counts-list m e) (counts-mark a v (counts-list l d)) f
+marked a v l m d e f =
+    set-eq (setOf m) (mark a v (setOf l)) (counts-list m e) (mark-counts a v (setOf l) (counts-list l d)) (λ b. f b ∙ sym (mark-has a v (setOf l) b))
 
 -- ---- the form
 

@@ -1,11 +1,11 @@
 -- The addresses of one name. Document 01, "Zone, requests and jobs".
-use mathlib.Core.Bool.{Bool, true, false, cond, _&&_}
+use mathlib.Core.Bool.{Bool, false, cond, not, _&&_, _||_}
 use mathlib.Core.List.{List, [], _∷_, _++_, map}
 use Prim.Native.Nat.{ℕ, _+_, _-_}
 use lib.Dec.{leb, ltb}
 use lib.ListN.{length, take}
 use Rattle.octets.specs.Compare.{sameOctets}
-use Rattle.octets.specs.Count.{Octets, member, distinct, one}
+use Rattle.octets.specs.Count.{Octets, member, distinct}
 use Rattle.addresses.specs.declared.set4.Addr4.{Addr4}
 use Rattle.addresses.specs.declared.set4.Set4.{Set4}
 use Rattle.addresses.specs.declared.set6.Addr6.{Addr6}
@@ -23,9 +23,13 @@ pub record Addresses : Type 0 where
 abbrev pub nothing : Addresses
 nothing = record { count = 0; has = λ a. false }
 
--- The set with the address in it (true), or without it (false).
-unfoldable pub mark : Octets → Bool → Addresses → Addresses
-mark a v s = record { count = (s .count + one v) - one (s .has a); has = λ b. cond (sameOctets a b) v (s .has b) }
+-- The set with an address in it.
+unfoldable pub including : Octets → Addresses → Addresses
+including a s = record { count = cond (s .has a) (s .count) (s .count + 1); has = λ b. sameOctets a b || s .has b }
+
+-- The set without it.
+unfoldable pub excluding : Octets → Addresses → Addresses
+excluding a s = record { count = cond (s .has a) (s .count - 1) (s .count); has = λ b. not (sameOctets a b) && s .has b }
 
 -- ---- the structs
 

@@ -17,11 +17,11 @@ use Rattle.leasepacket.specs.Query.{anySet, hardware, hardwareSet, keyed, relay
 use Rattle.leasetable.specs.Table.{risesFrom, tableFits, those, placed, ranked}
 use Rattle.leasereply.specs.Reply.{fixed, ofLease, flat, otherReply, activeReply}
 use Rattle.leasequery.specs.Answer.{hasKey, byAddressOf, byClientOf, answerBy, askedOf, answer}
-use Rattle.addresses.specs.Addresses.{mark}
-use Rattle.update.specs.Rules.{with, put, heldBy, empty, address, newHost, left, fits, writeB, requestA, requestB, removeAddress, removeName}
+use Rattle.addresses.specs.Addresses.{including, excluding}
+use Rattle.update.specs.Rules.{with, heldBy, empty, newHost, left, fits, writeB, requestA, requestB, removeAddress, removeName, withName, withoutName, withAddress, withoutAddress, deleteName}
 use Rattle.job.specs.Jobs.{fresh, after, afterFirst, afterSecond, step}
 use Rattle.cases.specs.Cases.{Holds, All, cases, stepped, steppedFresh}
 
 pub cases-hold : All cases
-unfolding All Holds cases labelsOf limited shapeOf honoured flagAnswer byName bySuffix byFlags byValue answerOf octetsOf resultOf sameOctets numberAt isExpiry isPast expiryAfter keep oneOf each distinct removed renewed evicted roomed inserted named namedAll isWhole options isArea acts addressesFrom packed isSound isTimely optionApplied serverList bigEndian isAhead secondsLeft secondsSince allZero hardwareFits lengthsFit momentsFit wellFormed activeAt hasClientId ranksBefore packetOptions.options values checked anySet hardware hardwareSet keyed relayed typed asking risesFrom tableFits those placed ranked fixed ofLease flat otherReply activeReply hasKey byAddressOf byClientOf answerBy askedOf answer key mark with put heldBy empty address newHost left fits writeB requestA requestB removeAddress removeName fresh after afterFirst afterSecond step stepped steppedFresh
+unfolding All Holds cases labelsOf limited shapeOf honoured flagAnswer byName bySuffix byFlags byValue answerOf octetsOf resultOf sameOctets numberAt isExpiry isPast expiryAfter keep oneOf each distinct removed renewed evicted roomed inserted named namedAll isWhole options isArea acts addressesFrom packed isSound isTimely optionApplied serverList bigEndian isAhead secondsLeft secondsSince allZero hardwareFits lengthsFit momentsFit wellFormed activeAt hasClientId ranksBefore packetOptions.options values checked anySet hardware hardwareSet keyed relayed typed asking risesFrom tableFits those placed ranked fixed ofLease flat otherReply activeReply hasKey byAddressOf byClientOf answerBy askedOf answer key including excluding with withName withoutName heldBy empty withAddress withoutAddress newHost left fits writeB requestA requestB removeAddress deleteName removeName fresh after afterFirst afterSecond step stepped steppedFresh
 cases-hold = (refl, (refl, (refl, (refl, (refl, (refl, (refl, ((refl, refl), ((refl, refl), ((refl, refl), (refl, (refl, (refl, (refl, (refl, ((refl, refl), ((refl, refl, refl), ((refl, refl, refl), ((refl, refl, refl), tt)))))))))))))))))))

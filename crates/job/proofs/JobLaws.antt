@@ -11,7 +11,7 @@ use Rattle.dname.specs.declared.name.Name.{Name}
 use Rattle.zone.specs.declared.entry.Dhcid.{Dhcid}
 use Rattle.zone.specs.declared.entry.Address.{Address}
 use Rattle.update.specs.Rules as abstract
-use Rattle.update.specs.Rules.{Answer, success, YXDOMAIN, NXDOMAIN, NXRRSET, noRoom, keepOthers, Policy, requestA, requestB, removeAddress, removeName}
+use Rattle.update.specs.Rules.{Answer, success, NXDOMAIN, YXDOMAIN, YXRRSET, NXRRSET, noRoom, keepOthers, Policy, requestA, requestB, removeAddress, removeName}
 use Rattle.dname.specs.Name.{nameOf, isFull}
 use Rattle.update.specs.Meaning.{listed, policyOf, updateOf}
 use Rattle.update.proofs.NumberLaws.{policy-zero}
@@ -70,6 +70,7 @@ add-after n NXDOMAIN = go (eqb n 6)
     go : (b : Bool) → ofAdd (cond b (ended (gaveUp n)) (beforeA n)) ≡ true
     go true = refl
     go false = refl
+add-after n YXRRSET = refl
 add-after n NXRRSET = refl
 add-after n noRoom = refl
 

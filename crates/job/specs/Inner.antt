@@ -2,7 +2,7 @@
 use mathlib.Core.Bool.{cond}
 use Prim.Native.Nat.{ℕ}
 use lib.Dec.{eqb}
-use Rattle.update.specs.Rules.{Answer, success, YXDOMAIN, NXDOMAIN, NXRRSET, noRoom}
+use Rattle.update.specs.Rules.{Answer, success, NXDOMAIN, YXDOMAIN, YXRRSET, NXRRSET, noRoom}
 use Rattle.job.specs.declared.job.Job.{Job}
 use Rattle.job.specs.Jobs.{Stage}
 use Rattle.job.specs.Meaning.{atStage}
@@ -22,7 +22,12 @@ placed j stage count = record {
 -- The answer that a number stands for; any number that is no answer's counts as that of NXDOMAIN.
 unfoldable pub answerOf : ℕ → Answer
 answerOf number =
-    cond (eqb number 0) success (cond (eqb number 6) YXDOMAIN (cond (eqb number 8) NXRRSET (cond (eqb number 256) noRoom NXDOMAIN)))
+    cond (eqb number 0) success
+    (cond (eqb number 6) YXDOMAIN
+    (cond (eqb number 7) YXRRSET
+    (cond (eqb number 8) NXRRSET
+    (cond (eqb number 256) noRoom
+    NXDOMAIN))))
 
 -- The job at the stage that the rule gives for the answer.
 abbrev pub led : Job → (Answer → Stage) → ℕ → Job

@@ -4,7 +4,7 @@ use mathlib.Core.List.{List, [], _∷_}
 use mathlib.Core.Option.{Option, none, some}
 use Prim.Native.Nat.{ℕ, suc}
 use lib.Dec.{eqb}
-use Rattle.update.specs.Rules.{Zone, Update, Policy, Answer, success, YXDOMAIN, NXDOMAIN, NXRRSET, Outcome, requestA, requestB, removeAddress, removeName}
+use Rattle.update.specs.Rules.{Zone, Update, Policy, Answer, success, NXDOMAIN, YXDOMAIN, YXRRSET, NXRRSET, Outcome, requestA, requestB, removeAddress, removeName}
 
 pub data Kind : Type 0 where
   add remove : Kind
@@ -59,11 +59,12 @@ unfoldable pub fresh : Arguments → Stage
 fresh j = firstStage (j .kind)
 
 -- Where an answer leads an add; n is the number of requests sent, the one answered among them. Success is done, YXDOMAIN leads to B,
--- NXDOMAIN back to A, or at the sixth request to giving up; NXRRSET is a conflict.
+-- NXDOMAIN back to A, or at the sixth request to giving up; NXRRSET is a conflict. No request of an add answers YXRRSET; it would be one too.
 unfoldable pub after : ℕ → Answer → Stage
 after n success = ended (done n)
 after n YXDOMAIN = beforeB n
 after n NXDOMAIN = cond (eqb n 6) (ended (gaveUp n)) (beforeA n)
+after n YXRRSET = ended (conflict n)
 after n NXRRSET = ended (conflict n)
 after n Answer.noRoom = ended (noRoom n)
 
@@ -71,6 +72,7 @@ abbrev pub passed : Answer → Bool
 passed success = true
 passed YXDOMAIN = false
 passed NXDOMAIN = false
+passed YXRRSET = false
 passed NXRRSET = false
 passed Answer.noRoom = false
 

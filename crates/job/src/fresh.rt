@@ -1,5 +1,6 @@
 // New jobs.
 use crate::job::Job;
+use crate::stage;
 use dname::name;
 use dname::name::Name;
 use update::numbers;
@@ -50,7 +51,7 @@ fn blank_job() -> Job
 }
 
 // The job, unless there is a refusal.
-fn unless(refusal: u32, job: Job) -> NewJob
+fn new_job(refusal: u32, job: Job) -> NewJob
     ensures { λ r. ⌜ r ≡ newJob refusal job ⌝ }
 {
     if refusal == 0 {
@@ -79,7 +80,7 @@ pub extern "C" fn jespurla_new_add(
 {
     let refused = refusal(name, family, policy);
     let job = Job {
-        stage: 1,
+        stage: stage::BEFORE_A,
         count: 0,
         family: family,
         policy: policy,
@@ -87,7 +88,7 @@ pub extern "C" fn jespurla_new_add(
         dhcid: dhcid,
         address: address,
     };
-    unless(refused, job)
+    new_job(refused, job)
 }
 
 // A remove job, that has sent nothing yet.
@@ -102,7 +103,7 @@ pub extern "C" fn jespurla_new_remove(
 {
     let refused = refusal(name, family, 0);
     let job = Job {
-        stage: 11,
+        stage: stage::BEFORE_FIRST,
         count: 0,
         family: family,
         policy: 0,
@@ -110,5 +111,5 @@ pub extern "C" fn jespurla_new_remove(
         dhcid: dhcid,
         address: address,
     };
-    unless(refused, job)
+    new_job(refused, job)
 }

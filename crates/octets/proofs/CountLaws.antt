@@ -9,7 +9,7 @@ use borrow.Table.Steps.{cases}
 use Rattle.octets.proofs.BoolLaws.{and-left, and-right}
 use Rattle.octets.specs.Compare.{sameOctets}
 use Rattle.octets.proofs.CompareLaws.{same-self, same-true}
-use Rattle.octets.specs.Count.{Octets, member, distinct, Counts, without, one}
+use Rattle.octets.specs.Count.{Octets, member, distinct, Counts, without}
 
 -- ---- strings of octets, equal or not
 
@@ -183,6 +183,10 @@ counts-list l d = record { list = l; once = d; number = refl; exactly = λ a. re
 
 pub counts-ext : {n : ℕ} {p q : Octets → Bool} → ((a : Octets) → p a ≡ q a) → Counts n p → Counts n q
 counts-ext e c = record { list = c .list; once = c .once; number = c .number; exactly = λ a. sym (e a) ∙ c .exactly a }
+
+abbrev pub one : Bool → ℕ
+one true = 1
+one false = 0
 
 -- one more, one fewer, or as many: the law of every write
 pub counts-mark : {n : ℕ} {p : Octets → Bool} (a : Octets) (v : Bool) → Counts n p → Counts ((n + one v) - one (p a)) (λ b. cond (sameOctets a b) v (p b))

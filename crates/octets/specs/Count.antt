@@ -30,7 +30,3 @@ pub record Counts (n : ℕ) (p : Octets → Bool) : Type 0 where
 unfoldable pub without : Octets → List Octets → List Octets
 without a [] = []
 without a (x ∷ l) = cond (sameOctets x a) (without a l) (x ∷ without a l)
-
-abbrev pub one : Bool → ℕ
-one true = 1
-one false = 0

@@ -1,6 +1,6 @@
 -- The numbers of answers, for crates that read them. Assumes nothing.
 use mathlib.Core.Path.{_≡_, refl}
-use Rattle.update.specs.Rules.{success, YXDOMAIN, NXDOMAIN, NXRRSET, noRoom}
+use Rattle.update.specs.Rules.{success, NXDOMAIN, YXDOMAIN, YXRRSET, NXRRSET, noRoom}
 use Rattle.request.specs.Promise.{numberOf}
 
 pub number-success : numberOf success ≡ 0
@@ -14,6 +14,10 @@ number-nxdomain = refl
 pub number-yxdomain : numberOf YXDOMAIN ≡ 6
 unfolding numberOf
 number-yxdomain = refl
+
+pub number-yxrrset : numberOf YXRRSET ≡ 7
+unfolding numberOf
+number-yxrrset = refl
 
 pub number-nxrrset : numberOf NXRRSET ≡ 8
 unfolding numberOf

@@ -17,14 +17,14 @@ use Rattle.zone.specs.declared.Zone.{Zone}
 use Rattle.zone.specs.declared.survey.Survey.{Survey}
 use Rattle.request.specs.declared.decide.Change.{Change}
 use Rattle.update.specs.Rules as rules
-use Rattle.update.specs.Rules.{Host, GoodHost, Update, put, Answer, success, YXDOMAIN, NXDOMAIN, NXRRSET, noRoom, Outcome, says, heldBy, empty, address, newHost, left, fits, requestA, requestB, removeAddress, removeName}
+use Rattle.update.specs.Rules.{Host, GoodHost, Update, Answer, success, YXDOMAIN, NXDOMAIN, YXRRSET, NXRRSET, noRoom, Outcome, says, heldBy, empty, newHost, left, fits, requestA, requestB, removeAddress, removeName}
 use Rattle.zone.specs.Meaning.{used, keyOf, inOrder, formed}
 use Rattle.update.specs.Meaning.{hostOf, zoneOf, familyOf, policyOf, updateOf}
 use Rattle.request.specs.Promise.{numberOf}
 use Rattle.zone.specs.Survey.{Found, placeOf}
 use Rattle.request.specs.Inner.{SaysOnly, requestOf, written, Decided, Adds, Seen, Decides, Stands, Makes, Fresh, AlreadyAdded, HasAddress, HasRoom, Joined, Parted}
 use Rattle.zone.proofs.SurveyLaws.{blank}
-use Rattle.update.proofs.ZoneLaws.{some≢none, put-same, put-stood, A-new, A-full, A-there, B-absent, B-other, B-full, B-done, remove-address-absent, remove-address-other, remove-address-own, remove-name-absent, remove-name-kept, remove-name-gone}
+use Rattle.update.proofs.ZoneLaws.{put, address, some≢none, put-same, put-stood, A-new, A-full, A-there, B-absent, B-other, B-full, B-done, remove-address-absent, remove-address-other, remove-address-own, remove-name-absent, remove-name-other, remove-name-kept, remove-name-gone}
 use Rattle.request.proofs.HostLaws.{about}
 use Rattle.request.proofs.StayLaws.{removed-same, removed-other, added-same, added-other}
 use Rattle.request.proofs.PlaceLaws.{good-host, found-order, found-host, found-changed, found-freed, not-found, free-written, free-room, no-room}
@@ -262,24 +262,25 @@ module _ (s : Survey) (d : Dhcid) (family : ℕ) (a : Address) where
     unfolding numberOf
     name-absent r h i = only asksSecond r NXRRSET i (λ z n b t. remove-name-absent (u n) (zoneOf z) (absent n (t .form) (t .found) h))
 
-    -- held by the DHCID and without an address, or not
+    -- without an address, or not
     abbrev Bare : Bool → Type 0
-    Bare x = (n : Name) → (heldBy (d .octets) (cond (eqb (e .kind) 1) none (some (e .dhcid .octets))) && empty (hostOf (placeOf n e))) ≡ x
+    Bare x = (n : Name) → empty (hostOf (placeOf n e)) ≡ x
 
     module _ (h : s .found < 64) where
-      bare : (x : Bool) → Bare x → {z : Zone} {n : Name} {b : Entry} (t : Seen z n b s e) → (heldBy (u n .dhcid) (hostOf (old t) .owner) && empty (hostOf (old t))) ≡ x
-      bare x o t = unfold updateOf hostOf in o (it t .name)
-
-      pub name-kept : (r : Change) → Bare false → SaysOnly 8 r → Decides asksSecond s e r
+      pub name-other : (r : Change) → Held false → SaysOnly 8 r → Decides asksSecond s e r
       unfolding numberOf
-      name-kept r o i = only asksSecond r NXRRSET i (λ z n b t. remove-name-kept (u n) (zoneOf z) _ (present t h) (bare false o t))
+      name-other r o i = only asksSecond r NXRRSET i (λ z n b t. remove-name-other (u n) (zoneOf z) _ (present t h) (held t false o))
 
-      pub name-gone : (f : Records) → Bare true → f .kind ≡ 0 → Decides asksSecond s e (writes-at (s .found) f)
+      pub name-kept : (r : Change) → Held true → Bare false → SaysOnly 7 r → Decides asksSecond s e r
       unfolding numberOf
-      name-gone f o k = record {
+      name-kept r o v i = only asksSecond r YXRRSET i (λ z n b t. remove-name-kept (u n) (zoneOf z) _ (present t h) (held t true o) (v (it t .name)))
+
+      pub name-gone : (f : Records) → Held true → Bare true → f .kind ≡ 0 → Decides asksSecond s e (writes-at (s .found) f)
+      unfolding numberOf
+      name-gone f o v k = record {
         placeIs = λ q. refl;
         decides = λ z n b t.
-            write z _ _ _ _ (put (u n .name) none (zoneOf z)) (remove-name-gone (u n) (zoneOf z) _ (present t h) (bare true o t)) refl h
+            write z _ _ _ _ (put (u n .name) none (zoneOf z)) (remove-name-gone (u n) (zoneOf z) _ (present t h) (held t true o) (v (it t .name))) refl h
             (unfold updateOf in found-freed z (t .form) (nameOf n) blank (s .found) (t .found .foundIs) h (placeOf (it t .name) f) k)
             (λ q. some≢none (sym (put-stood (u n .name) none (zoneOf z) q ∙ present t h)));
       }

@@ -10,17 +10,18 @@ use lib.ListN.{length, getD, take}
 use borrow.Author.Tests.{eq-eqb, ne-eqb, leb-true, le-leb}
 use Rattle.octets.proofs.BoolLaws.{and-left, and-right}
 use Rattle.octets.specs.Count.{Octets, member, distinct, without}
-use Rattle.addresses.specs.Addresses.{Family, four, six, Addresses, nothing, mark, list4, list6, setOf, sound, joined}
+use Rattle.addresses.specs.Addresses.{Family, four, six, Addresses, nothing, list4, list6, setOf, sound, joined}
 use Rattle.addresses.specs.declared.set4.Set4.{Set4}
 use Rattle.addresses.specs.declared.set6.Set6.{Set6}
 use Rattle.octets.proofs.CountLaws.{distinct-nil, distinct-without}
-use Rattle.addresses.proofs.SetLaws.{sound-few, sound-once, sound-both, joined-once, joined-mark, without-mark}
+use Rattle.addresses.proofs.SetLaws.{mark, sound-few, sound-once, sound-both, joined-once, joined-mark, without-mark}
 use Rattle.zone.specs.declared.entry.Entry.{Entry}
 use Rattle.zone.specs.declared.entry.Records.{Records}
 use Rattle.zone.specs.declared.entry.Address.{Address}
 use Rattle.zone.specs.declared.entry.Dhcid.{Dhcid}
 use Rattle.dname.specs.declared.name.Name.{Name}
-use Rattle.update.specs.Rules.{Host, Update, ownFamily, isFamily, with, address, fits, left, newHost}
+use Rattle.update.proofs.ZoneLaws.{address, address-is}
+use Rattle.update.specs.Rules.{Host, Update, ownFamily, isFamily, with, fits, left, newHost}
 use Rattle.dname.specs.Name.{nameOf, isFull}
 use Rattle.zone.specs.Meaning.{inOrder}
 use Rattle.zone.specs.Survey.{recordsOf}
@@ -184,8 +185,8 @@ module _ (e : Entry) (u : Update) (f : Family) (x : Octets) (m : Means u f x) wh
   has-by = rw (m .familyIs, m .addressIs)
 
   address-by : (v : Bool) → address u v (hostOf e) ≡ with f (mark x v (setOf (listOf e f))) (hostOf e)
-  unfolding address hostOf
-  address-by v = rw (m .familyIs, m .addressIs)
+  unfolding hostOf
+  address-by v = address-is u v (hostOf e) ∙ rw (m .familyIs, m .addressIs)
 
   -- what a set comes to, where it is made of the one that stood there
   pub join-by : (l : List Octets) → distinct (listOf e f) ≡ true → fits u (hostOf e) ≡ true → l ≡ joined x (listOf e f) → with f (setOf l) (hostOf e) ≡ address u true (hostOf e)

@@ -21,12 +21,12 @@ use Rattle.dname.specs.declared.name.Name.{Name}
 use Rattle.zone.specs.declared.entry.Entry.{Entry}
 use Rattle.zone.specs.declared.Zone.{Zone}
 use Rattle.update.specs.Rules as rules
-use Rattle.update.specs.Rules.{Host, there, GoodHost, Form, put}
+use Rattle.update.specs.Rules.{Host, there, GoodHost, Form}
 use Rattle.zone.specs.Meaning.{used, keyOf, keys, inOrder, allInOrder, formed}
 use Rattle.update.specs.Meaning.{listOf, hostOf, look, zoneOf}
 use Rattle.zone.specs.Survey.{named, placeFrom}
 use Rattle.request.proofs.HostLaws.{order-parts}
-use Rattle.update.proofs.ZoneLaws.{some≢none, zone-eq, named-put, put-size}
+use Rattle.update.proofs.ZoneLaws.{put, put-has, some≢none, zone-eq, named-put, put-size}
 
 -- ---- the form of the structs, and what it gives
 
@@ -334,8 +334,11 @@ module _ (z : Zone) (g : formed z ≡ true) (n : Octets) (b : Entry) (r : ℕ) w
       formed-all (wrote d) m (order-set (z .entries) r d o (formed-order z g)) (distinct-set (z .entries) r d (key n) h a k (formed-names z g)) in (
         f,
         zone-eq (zoneOf (wrote d)) (put n (view d) (zoneOf z)) (form-of (wrote d) f .names) (named-put n (view d) (zoneOf z) (form-of z g .names))
-            (λ m. unfold zoneOf put in look-set (z .entries) r d (key n) h a k m),
+            (λ m. looks m ∙ sym (put-has n (view d) (zoneOf z) m)),
       )
+    where
+      looks : (m : Octets) → zoneOf (wrote d) .at m ≡ cond (sameOctets (key n) m) (view d) (zoneOf z .at m)
+      looks m = unfold zoneOf in look-set (z .entries) r d (key n) h a k m
 
   module _ (w : r ≡ placeFrom (named n) 0 64 (z .entries)) where
     module _ (h : r < 64) where

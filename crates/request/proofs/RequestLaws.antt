@@ -14,10 +14,10 @@ use Rattle.octets.specs.Count.{Octets, distinct}
 use Rattle.octets.proofs.CountLaws.{distinct-nil}
 use Rattle.zone.specs.declared.entry.Entry.{Entry}
 use Rattle.zone.specs.declared.Zone as place
-use Rattle.update.specs.Rules.{Host, Zone, Form, put, Update, Policy, Answer, success, YXDOMAIN, NXDOMAIN, NXRRSET, noRoom, Outcome, says, atName, heldBy, empty, address, newHost, left, fits, requestA, requestB, removeAddress, removeName}
+use Rattle.update.specs.Rules.{Host, Zone, Form, Update, Policy, Answer, success, YXDOMAIN, NXDOMAIN, YXRRSET, NXRRSET, noRoom, Outcome, says, atName, heldBy, empty, newHost, left, fits, requestA, requestB, removeAddress, removeName}
 use Rattle.zone.specs.Meaning.{used, keys, allInOrder, formed}
 use Rattle.update.specs.Meaning.{look, zoneOf}
-use Rattle.update.proofs.ZoneLaws.{option-case, put-at, put-off, good-add, good-remove, good-left, good-new, form-new, form-change, form-delete, A-new, A-full, A-there, B-absent, B-other, B-full, B-done, remove-address-absent, remove-address-other, remove-address-own, remove-name-absent, remove-name-kept, remove-name-gone}
+use Rattle.update.proofs.ZoneLaws.{put, address, option-case, put-at, put-off, good-add, good-remove, good-left, good-new, form-new, form-change, form-delete, A-new, A-full, A-there, B-absent, B-other, B-full, B-done, remove-address-absent, remove-address-other, remove-address-own, remove-name-absent, remove-name-other, remove-name-kept, remove-name-gone}
 use Rattle.request.proofs.PlaceLaws.{None, formed-all}
 
 -- ---- every request either succeeds and writes at its name, or changes nothing
@@ -50,6 +50,9 @@ nx e = let z : _≡_ {A = ℕ} 0 1 = cc in omega arith
 
 nxrr : ¬ (NXRRSET ≡ success)
 nxrr e = let z : _≡_ {A = ℕ} 0 1 = cc in omega arith
+
+yxrr : ¬ (YXRRSET ≡ success)
+yxrr e = let z : _≡_ {A = ℕ} 0 1 = cc in omega arith
 
 full : ¬ (noRoom ≡ success)
 full e = let z : _≡_ {A = ℕ} 0 1 = cc in omega arith
@@ -84,9 +87,11 @@ module _ (u : Update) (z : Zone) where
   pub remove-name-effect : Effect u z (removeName u z)
   remove-name-effect =
       option-case (atName u z) (λ e. unchanged NXRRSET nxrr (remove-name-absent u z e))
-      (λ h e. cases (heldBy (u .dhcid) (h .owner) && empty h)
-      (λ o. wrote none (λ g. form-delete (u .name) h z g e) (remove-name-gone u z h e o))
-      (λ o. unchanged NXRRSET nxrr (remove-name-kept u z h e o)))
+      (λ h e. cases (heldBy (u .dhcid) (h .owner))
+      (λ o. cases (empty h)
+      (λ v. wrote none (λ g. form-delete (u .name) h z g e) (remove-name-gone u z h e o v))
+      (λ v. unchanged YXRRSET yxrr (remove-name-kept u z h e o v)))
+      (λ o. unchanged NXRRSET nxrr (remove-name-other u z h e o)))
 
 -- ---- what stands at the name after a success
 
@@ -124,12 +129,14 @@ module _ (u : Update) (z : Zone) where
       (λ o. absurd (nxrr (ap answer-of (sym (remove-address-other u z h e o)) ∙ t))))
 
   pub remove-name-after : removeName u z .answer ≡ success
-      → (h : Host) × (atName u z ≡ some h) × ((heldBy (u .dhcid) (h .owner) && empty h) ≡ true) × (removeName u z .zone .at (key (u .name)) ≡ none)
+      → (h : Host) × (atName u z ≡ some h) × (heldBy (u .dhcid) (h .owner) ≡ true) × (empty h ≡ true) × (removeName u z .zone .at (key (u .name)) ≡ none)
   remove-name-after t =
       option-case (atName u z) (λ e. absurd (nxrr (ap answer-of (sym (remove-name-absent u z e)) ∙ t)))
-      (λ h e. cases (heldBy (u .dhcid) (h .owner) && empty h)
-      (λ o. (h, e, o, ap (at-of (key (u .name))) (remove-name-gone u z h e o) ∙ put-at (u .name) none z))
-      (λ o. absurd (nxrr (ap answer-of (sym (remove-name-kept u z h e o)) ∙ t))))
+      (λ h e. cases (heldBy (u .dhcid) (h .owner))
+      (λ o. cases (empty h)
+      (λ v. (h, e, o, v, ap (at-of (key (u .name))) (remove-name-gone u z h e o v) ∙ put-at (u .name) none z))
+      (λ v. absurd (yxrr (ap answer-of (sym (remove-name-kept u z h e o v)) ∙ t))))
+      (λ o. absurd (nxrr (ap answer-of (sym (remove-name-other u z h e o)) ∙ t))))
 
   -- no room: only where A needs a 65th name, or B, after its deletes, a fifth address of the family
   pub A-no-room : requestA u z .answer ≡ noRoom → (atName u z ≡ none) × (64 ≤ z .size)

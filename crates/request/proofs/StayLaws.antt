@@ -5,11 +5,11 @@ use Prim.Native.Nat.{ℕ, zero, suc, _+_, _-_, _≤_}
 use native.Mathlib.Omega.{arith}
 use borrow.Author.Tests.{eq-eqb, eqb-true}
 use Rattle.octets.proofs.BoolLaws.{and-left, and-right}
-use Rattle.octets.specs.Count.{Octets, Counts, one}
+use Rattle.octets.specs.Count.{Octets, Counts}
 use Rattle.addresses.specs.Addresses.{Family, four, six, Addresses, nothing}
-use Rattle.octets.proofs.CountLaws.{same-dec, counts-none, counts-one}
-use Rattle.update.specs.Rules.{Host, GoodHost, Update, Policy, keepOthers, oneOfFamily, onlyThis, ownFamily, address, left, fits}
-use Rattle.update.proofs.ZoneLaws.{same-host, address-owner, address-own, address-other, address-family, address-count, left-owner, left-keep, left-one, left-one-other, left-only, good-add, good-remove, good-left}
+use Rattle.octets.proofs.CountLaws.{one, same-dec, counts-none, counts-one}
+use Rattle.update.specs.Rules.{Host, GoodHost, Update, Policy, keepOthers, oneOfFamily, onlyThis, ownFamily, left, fits}
+use Rattle.update.proofs.ZoneLaws.{address, same-host, address-owner, address-own, address-other, address-family, address-count, left-owner, left-keep, left-one, left-one-other, left-only, good-add, good-remove, good-left}
 use Rattle.request.specs.Inner.{alone, added}
 
 four≢six : four ≡ six → ⊥

@@ -1,4 +1,4 @@
--- What inner functions decide, on a survey of the zone. No public promise cites these.
+-- What inner functions decide, on a survey of the zone. No contract of another crate cites these.
 use mathlib.Core.Path.{_≡_}
 use mathlib.Core.List.{List}
 use mathlib.Core.Bool.{Bool, true, false, cond, _&&_}
@@ -21,10 +21,11 @@ use Rattle.zone.specs.Survey.{Found, Surveyed, Visited, placeOf, recordsOf}
 use Rattle.request.specs.declared.decide.Change.{Change}
 use Rattle.request.specs.declared.Answered.{Answered}
 use Rattle.request.specs.declared.Effect.{Effect}
+use Rattle.request.specs.declared.Request.{Request}
 use Rattle.update.specs.Rules as rules
-use Rattle.update.specs.Rules.{Host, Update, Policy, keepOthers, oneOfFamily, onlyThis, ownFamily, address, newHost, fits, Outcome, requestA, requestB, removeAddress, removeName}
+use Rattle.update.specs.Rules.{Host, Update, Policy, keepOthers, oneOfFamily, onlyThis, ownFamily, withAddress, withoutAddress, newHost, fits, Outcome, requestA, requestB, removeAddress, removeName}
 use Rattle.update.specs.Meaning.{hostOf, zoneOf, familyOf, policyOf, addressOf, updateOf}
-use Rattle.request.specs.Promise.{numberOf, refusalOf}
+use Rattle.request.specs.Promise.{numberOf, refusalOf, Promised}
 
 -- the refusal that follows from a survey
 pub record Refuses (n : Octets) (family policy : ℕ) (s : Survey) (r : ℕ) : Type 0 where
@@ -36,11 +37,14 @@ pub record Refuses (n : Octets) (family policy : ℕ) (s : Survey) (r : ℕ) : T
 abbrev pub nameIn : List ℕ → ℕ → Name
 nameIn o len = record { octets = o; len = len }
 
--- ---- the requests by number: A for 1, B for 2, the first remove request for 3, the second for any other
+-- ---- the requests by the numbers of src/kind.rt; any other number counts as the second remove request
 
 unfoldable pub requestOf : ℕ → ℕ → Update → rules.Zone → Outcome
 requestOf kind policy u z =
     cond (eqb kind 1) (requestA u z) (cond (eqb kind 2) (requestB (policyOf policy) u z) (cond (eqb kind 3) (removeAddress u z) (removeName u z)))
+
+abbrev pub asks : Request → rules.Zone → Outcome
+asks q = requestOf (q .kind) (q .policy) (updateOf (q .name) (q .dhcid) (q .family) (q .address))
 
 -- ---- what a request comes to: an answer, and one place written, or none where there is no such place
 
@@ -52,6 +56,10 @@ settled z w = record { refusal = w .refusal; answer = w .answer; zone = written 
 
 abbrev pub effectAt : Name → Change → Effect
 effectAt n w = record { refusal = 0; answer = w .answer; place = w .place; entry = placeOf n (w .records) }
+
+-- what is promised of a request holds once its place is written
+abbrev pub Settles : Zone → Request → Effect → Type 0
+Settles z q w = Promised z (refusalOf z (nameOf (q .name)) (q .family) (q .policy)) (asks q (zoneOf z)) (settled z w)
 
 -- the rules' answer; nothing is written where they leave the zone as it is, and else one place, which makes it theirs
 pub record Decided (z : Zone) (right : Outcome) (answer place : ℕ) (e : Entry) : Type 0 where
@@ -138,7 +146,7 @@ pub record HasRoom (family : ℕ) (a : Address) (e : Records) (r : Bool) : Type 
 
 pub record Joined (family : ℕ) (a : Address) (e r : Records) : Type 0 where
   pub joins : (n : Name) (u : Update) → About family a u → inOrder (placeOf n e) ≡ true → fits u (hostAt n e) ≡ true
-      → Stands n (e .kind) (address u true (hostAt n e)) r
+      → Stands n (e .kind) (withAddress u (hostAt n e)) r
 
 pub record Parted (family : ℕ) (a : Address) (e r : Records) : Type 0 where
-  pub parts : (u : Update) → About family a u → Makes (address u false) e r
+  pub parts : (u : Update) → About family a u → Makes (withoutAddress u) e r

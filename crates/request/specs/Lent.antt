@@ -1,4 +1,4 @@
--- What each public call on a lent zone promises.
+-- What each exported call on a lent zone promises.
 use mathlib.Core.Path.{_≡_}
 use mathlib.Core.Bool.{cond}
 use mathlib.Core.List.{List}
@@ -6,9 +6,13 @@ use Prim.Native.Nat.{ℕ}
 use lib.Dec.{eqb}
 use lib.ListN.{length}
 use Rattle.octets.specs.Count.{Octets}
+use Rattle.dname.specs.Name.{nameOf}
+use Rattle.dname.specs.declared.name.Name.{Name}
+use Rattle.zone.specs.declared.entry.Address.{Address}
+use Rattle.zone.specs.declared.entry.Dhcid.{Dhcid}
 use Rattle.update.specs.Rules as rules
-use Rattle.update.specs.Rules.{Outcome}
-use Rattle.update.specs.Meaning.{zoneOf}
+use Rattle.update.specs.Rules.{Update, Outcome}
+use Rattle.update.specs.Meaning.{zoneOf, updateOf}
 use Rattle.lentzone.specs.Decode.{zoneIn, OnePlace}
 use Rattle.request.specs.declared.Answered.{Answered}
 use Rattle.request.specs.declared.lent.RequestAnswer.{RequestAnswer}
@@ -31,3 +35,7 @@ pub record PromisedIn (z : List ℕ) (refusal : ℕ) (request : rules.Zone → O
   pub unchanged : request (zoneOf (zoneIn z)) .zone ≡ zoneOf (zoneIn z) → after ≡ z
   pub elsewhere : OnePlace z after
   pub promised : Promised (zoneIn z) refusal (request (zoneOf (zoneIn z))) (answered after r)
+
+-- A request by its rule and its policy, as RequestPromise has it.
+abbrev pub RequestPromiseIn : (Update → rules.Zone → Outcome) → List ℕ → Name → Dhcid → ℕ → Address → ℕ → List ℕ → RequestAnswer → Type 0
+RequestPromiseIn rule z n d family a policy after r = PromisedIn z (refusalIn z (nameOf n) family policy) (rule (updateOf n d family a)) after r

@@ -1,15 +1,19 @@
--- What each public call promises. Document 01, "Refusal numbers" and "Zone, requests and jobs".
+-- What each exported call on a zone by value promises. Document 01, "Refusal numbers" and "Zone, requests and jobs".
 use mathlib.Core.Path.{_≡_}
 use mathlib.Core.Bool.{true, cond}
 use Prim.Native.Nat.{ℕ}
 use lib.Dec.{eqb}
 use Rattle.octets.specs.Count.{Octets}
+use Rattle.dname.specs.declared.name.Name.{Name}
+use Rattle.zone.specs.declared.entry.Address.{Address}
+use Rattle.zone.specs.declared.entry.Dhcid.{Dhcid}
 use Rattle.zone.specs.declared.Zone.{Zone}
 use Rattle.request.specs.declared.Answered.{Answered}
-use Rattle.update.specs.Rules.{Answer, success, YXDOMAIN, NXDOMAIN, NXRRSET, noRoom, Outcome}
-use Rattle.dname.specs.Name.{isFull}
+use Rattle.update.specs.Rules as rules
+use Rattle.update.specs.Rules.{Update, Answer, success, NXDOMAIN, YXDOMAIN, YXRRSET, NXRRSET, noRoom, Outcome}
+use Rattle.dname.specs.Name.{nameOf, isFull}
 use Rattle.zone.specs.Meaning.{formed}
-use Rattle.update.specs.Meaning.{zoneOf, listed}
+use Rattle.update.specs.Meaning.{zoneOf, updateOf, listed}
 
 -- The refusals in their order: the zone's form, a number that is not listed, a name that is not full. 0 is none.
 unfoldable pub refusalOf : Zone → Octets → ℕ → ℕ → ℕ
@@ -20,6 +24,7 @@ unfoldable pub numberOf : Answer → ℕ
 numberOf success = 0
 numberOf NXDOMAIN = 3
 numberOf YXDOMAIN = 6
+numberOf YXRRSET = 7
 numberOf NXRRSET = 8
 numberOf noRoom = 256
 
@@ -33,3 +38,8 @@ pub record Promised (z : Zone) (refusal : ℕ) (right : Outcome) (r : Answered) 
   pub unchanged : right .zone ≡ zoneOf z → r .zone ≡ z
   pub done : refusal ≡ 0 → zoneOf (r .zone) ≡ right .zone
   pub formedAgain : refusal ≡ 0 → formed (r .zone) ≡ true
+
+-- A request by its rule, which takes an update, and its policy, 0 where it has none.
+abbrev pub RequestPromise : (Update → rules.Zone → Outcome) → Zone → Name → Dhcid → ℕ → Address → ℕ → Answered → Type 0
+RequestPromise rule z n d family a policy r =
+    Promised z (refusalOf z (nameOf n) family policy) (rule (updateOf n d family a) (zoneOf z)) r

@@ -1,5 +1,11 @@
 // What a request comes to, decided on the survey of a zone and on what stands at the place found. No
 // name goes in: the caller writes a new one, and the one that stands at a place stays.
+use crate::answer::NO_ROOM;
+use crate::answer::NXDOMAIN;
+use crate::answer::NXRRSET;
+use crate::answer::SUCCESS;
+use crate::answer::YXDOMAIN;
+use crate::answer::YXRRSET;
 use crate::host;
 use update::prerequisite;
 use zone::entry::Address;
@@ -10,17 +16,6 @@ ghost use Prim.Native.Nat.{ℕ};
 ghost use Rattle.update.specs.Rules.{requestA, requestB, removeAddress, removeName};
 ghost use Rattle.update.specs.Meaning.{policyOf, updateOf};
 ghost use Rattle.request.specs.Inner.{SaysOnly, Adds, Decides};
-
-// The numbers of the answers: RFC 2136's response codes, and one of our own.
-const SUCCESS: u32 = 0;
-
-const NXDOMAIN: u32 = 3;
-
-const YXDOMAIN: u32 = 6;
-
-const NXRRSET: u32 = 8;
-
-const NO_ROOM: u32 = 256;
 
 // place: where the records are to be written, 64 where nothing changes.
 pub(crate) struct Change {
@@ -122,7 +117,7 @@ pub(crate) fn remove_name(s: Survey, e: Records, d: Dhcid) -> Change
         return no_change(NXRRSET, e);
     }
     if !prerequisite::is_empty(e) {
-        return no_change(NXRRSET, e);
+        return no_change(YXRRSET, e);
     }
     let mut f = e;
     f.kind = 0;

@@ -1,6 +1,9 @@
-// The public calls on a zone that is lent: 23,936 octets in the layout of the C struct, read and
+// The exported calls on a zone that is lent: 23,936 octets in the layout of the C struct, read and
 // written where they lie. Refusals and decisions are those of the calls by value.
 use crate::decide;
+use crate::kind::REMOVE_ADDRESS;
+use crate::kind::REMOVE_NAME;
+use crate::kind::REQUEST_B;
 use dname::name::Name;
 use lentzone::place;
 use lentzone::survey;
@@ -12,8 +15,8 @@ ghost use lib.ListN.{length, take};
 ghost use Rattle.lentzone.specs.Inner.{SurveyedIn};
 ghost use Rattle.update.specs.Rules.{requestA, requestB, removeAddress, removeName};
 ghost use Rattle.dname.specs.Name.{nameOf};
-ghost use Rattle.update.specs.Meaning.{policyOf, updateOf};
-ghost use Rattle.request.specs.Lent.{refusalIn, PromisedIn};
+ghost use Rattle.update.specs.Meaning.{policyOf};
+ghost use Rattle.request.specs.Lent.{refusalIn, RequestPromiseIn};
 ghost use Rattle.request.specs.Inner.{requestOf, nameIn};
 
 // refusal: the number of document 01's table, 0 where there is none; 17 too where the octets are not
@@ -45,7 +48,7 @@ fn send(
     policy: u8,
 ) -> RequestAnswer
     requires { ⌜ (length (now o) ≡ 255) × ¬ (kind ≡ 1) ⌝ }
-    ensures { λ r. ⌜ PromisedIn (now (octets .entry)) (refusalIn (now (octets .entry)) (take len (now (o .entry))) family policy) (requestOf kind policy (updateOf (nameIn (now (o .entry)) len) d family a)) (now (octets .exit)) r ⌝ }
+    ensures { λ r. ⌜ RequestPromiseIn (requestOf kind policy) (now (octets .entry)) (nameIn (now (o .entry)) len) d family a policy (now (octets .exit)) r ⌝ }
 {
     let s = survey_for(octets, o, len);
     let refused = crate::refusal(s, o, len, family, policy);
@@ -83,7 +86,7 @@ pub extern "C" fn jespurla_request_a_lent(
     family: u8,
     address: Address,
 ) -> RequestAnswer
-    ensures { λ r. ⌜ PromisedIn (now (octets .entry)) (refusalIn (now (octets .entry)) (nameOf name) family 0) (requestA (updateOf name dhcid family address)) (now (octets .exit)) r ⌝ }
+    ensures { λ r. ⌜ RequestPromiseIn requestA (now (octets .entry)) name dhcid family address 0 (now (octets .exit)) r ⌝ }
 {
     let s = survey_for(octets, &name.octets, name.len);
     let refused = crate::refusal(s, &name.octets, name.len, family, 0);
@@ -112,11 +115,11 @@ pub extern "C" fn jespurla_request_b_lent(
     address: Address,
     policy: u8,
 ) -> RequestAnswer
-    ensures { λ r. ⌜ PromisedIn (now (octets .entry)) (refusalIn (now (octets .entry)) (nameOf name) family policy) (requestB (policyOf policy) (updateOf name dhcid family address)) (now (octets .exit)) r ⌝ }
+    ensures { λ r. ⌜ RequestPromiseIn (requestB (policyOf policy)) (now (octets .entry)) name dhcid family address policy (now (octets .exit)) r ⌝ }
 {
     send(
         octets,
-        2,
+        REQUEST_B,
         &name.octets,
         name.len,
         dhcid,
@@ -135,9 +138,18 @@ pub extern "C" fn jespurla_request_remove_address_lent(
     family: u8,
     address: Address,
 ) -> RequestAnswer
-    ensures { λ r. ⌜ PromisedIn (now (octets .entry)) (refusalIn (now (octets .entry)) (nameOf name) family 0) (removeAddress (updateOf name dhcid family address)) (now (octets .exit)) r ⌝ }
+    ensures { λ r. ⌜ RequestPromiseIn removeAddress (now (octets .entry)) name dhcid family address 0 (now (octets .exit)) r ⌝ }
 {
-    send(octets, 3, &name.octets, name.len, dhcid, family, address, 0)
+    send(
+        octets,
+        REMOVE_ADDRESS,
+        &name.octets,
+        name.len,
+        dhcid,
+        family,
+        address,
+        0,
+    )
 }
 
 // The second remove request: deletes a name that the DHCID holds and that has no address.
@@ -149,7 +161,16 @@ pub extern "C" fn jespurla_request_remove_name_lent(
     family: u8,
     address: Address,
 ) -> RequestAnswer
-    ensures { λ r. ⌜ PromisedIn (now (octets .entry)) (refusalIn (now (octets .entry)) (nameOf name) family 0) (removeName (updateOf name dhcid family address)) (now (octets .exit)) r ⌝ }
+    ensures { λ r. ⌜ RequestPromiseIn removeName (now (octets .entry)) name dhcid family address 0 (now (octets .exit)) r ⌝ }
 {
-    send(octets, 4, &name.octets, name.len, dhcid, family, address, 0)
+    send(
+        octets,
+        REMOVE_NAME,
+        &name.octets,
+        name.len,
+        dhcid,
+        family,
+        address,
+        0,
+    )
 }

@@ -1,10 +1,16 @@
-// The public calls. Each request makes one survey of the zone, refuses on it, or decides on it and
+// The exported calls. Each request makes one survey of the zone, refuses on it, or decides on it and
 // writes at most one place.
+pub mod answer;
 mod decide;
 mod host;
+mod kind;
 pub mod lent;
 
 use crate::decide::Change;
+use crate::kind::REMOVE_ADDRESS;
+use crate::kind::REMOVE_NAME;
+use crate::kind::REQUEST_A;
+use crate::kind::REQUEST_B;
 use dname::name;
 use dname::name::Name;
 use update::numbers;
@@ -21,11 +27,11 @@ ghost use lib.ListN.{length, take};
 ghost use Rattle.update.specs.Rules.{requestA, requestB, removeAddress, removeName};
 ghost use Rattle.dname.specs.Name.{nameOf};
 ghost use Rattle.zone.specs.Survey.{recordsOf};
-ghost use Rattle.update.specs.Meaning.{policyOf, updateOf, zoneOf};
-ghost use Rattle.request.specs.Promise.{refusalOf, Promised};
-ghost use Rattle.request.specs.Inner.{requestOf, written as writtenAt, settled, effectAt, Decides, Comes, Refuses};
+ghost use Rattle.update.specs.Meaning.{policyOf, updateOf};
+ghost use Rattle.request.specs.Promise.{refusalOf, RequestPromise};
+ghost use Rattle.request.specs.Inner.{requestOf, asks, written as writtenAt, settled, effectAt, Decides, Comes, Refuses, Settles};
 
-// What is sent. kind: 1 request A, 2 request B, 3 the first remove request, any other the second.
+// What is sent. kind: one of crate::kind; any other number counts as the second remove request.
 // policy: of request B; 0 where there is none.
 pub(crate) struct Request {
     pub kind: u8,
@@ -46,7 +52,7 @@ pub(crate) struct Effect {
 }
 
 // refusal: the number of document 01's table, 0 where there is none. answer: 0 success, 3 NXDOMAIN,
-// 6 YXDOMAIN, 8 NXRRSET, 256 no room.
+// 6 YXDOMAIN, 7 YXRRSET, 8 NXRRSET, 256 no room, as in crate::answer.
 #[repr(C)]
 pub struct Answered {
     pub refusal: u32,
@@ -126,10 +132,10 @@ fn change_of(
     requires { ⌜ ¬ (kind ≡ 1) ⌝ }
     ensures { λ r. ⌜ Decides (λ n. requestOf kind policy (updateOf n d family a)) s e r ⌝ }
 {
-    if kind == 2 {
+    if kind == REQUEST_B {
         return decide::add_address(s, e, d, family, a, policy);
     }
-    if kind == 3 {
+    if kind == REMOVE_ADDRESS {
         return decide::remove_address(s, e, d, family, a);
     }
     decide::remove_name(s, e, d)
@@ -138,10 +144,10 @@ fn change_of(
 // What a request that is not refused comes to: A writes its own name, any other leaves the one that
 // stands there.
 fn outcome_of(v: Visit, q: Request) -> Effect
-    ensures { λ r. ⌜ Comes (requestOf (q .kind) (q .policy) (updateOf (q .name) (q .dhcid) (q .family) (q .address))) (nameOf (q .name)) v r ⌝ }
+    ensures { λ r. ⌜ Comes (asks q) (nameOf (q .name)) v r ⌝ }
 {
     let s = v.survey;
-    if q.kind == 1 {
+    if q.kind == REQUEST_A {
         let w = decide::add_name(s, q.dhcid, q.family, q.address);
         return effect_at(q.name, w);
     }
@@ -153,7 +159,7 @@ fn outcome_of(v: Visit, q: Request) -> Effect
 
 // What a request on a zone comes to, before a place is written.
 fn effect_of(zone: Zone, q: Request) -> Effect
-    ensures { λ r. ⌜ Promised zone (refusalOf zone (nameOf (q .name)) (q .family) (q .policy)) (requestOf (q .kind) (q .policy) (updateOf (q .name) (q .dhcid) (q .family) (q .address)) (zoneOf zone)) (settled zone r) ⌝ }
+    ensures { λ r. ⌜ Settles zone q r ⌝ }
 {
     let n = q.name;
     let v = survey::survey_of(zone, n);
@@ -215,10 +221,10 @@ pub extern "C" fn jespurla_request_a(
     family: u8,
     address: Address,
 ) -> Answered
-    ensures { λ r. ⌜ Promised zone (refusalOf zone (nameOf name) family 0) (requestA (updateOf name dhcid family address) (zoneOf zone)) r ⌝ }
+    ensures { λ r. ⌜ RequestPromise requestA zone name dhcid family address 0 r ⌝ }
 {
     let q = Request {
-        kind: 1,
+        kind: REQUEST_A,
         family: family,
         policy: 0,
         name: name,
@@ -239,10 +245,10 @@ pub extern "C" fn jespurla_request_b(
     address: Address,
     policy: u8,
 ) -> Answered
-    ensures { λ r. ⌜ Promised zone (refusalOf zone (nameOf name) family policy) (requestB (policyOf policy) (updateOf name dhcid family address) (zoneOf zone)) r ⌝ }
+    ensures { λ r. ⌜ RequestPromise (requestB (policyOf policy)) zone name dhcid family address policy r ⌝ }
 {
     let q = Request {
-        kind: 2,
+        kind: REQUEST_B,
         family: family,
         policy: policy,
         name: name,
@@ -262,10 +268,10 @@ pub extern "C" fn jespurla_request_remove_address(
     family: u8,
     address: Address,
 ) -> Answered
-    ensures { λ r. ⌜ Promised zone (refusalOf zone (nameOf name) family 0) (removeAddress (updateOf name dhcid family address) (zoneOf zone)) r ⌝ }
+    ensures { λ r. ⌜ RequestPromise removeAddress zone name dhcid family address 0 r ⌝ }
 {
     let q = Request {
-        kind: 3,
+        kind: REMOVE_ADDRESS,
         family: family,
         policy: 0,
         name: name,
@@ -285,10 +291,10 @@ pub extern "C" fn jespurla_request_remove_name(
     family: u8,
     address: Address,
 ) -> Answered
-    ensures { λ r. ⌜ Promised zone (refusalOf zone (nameOf name) family 0) (removeName (updateOf name dhcid family address) (zoneOf zone)) r ⌝ }
+    ensures { λ r. ⌜ RequestPromise removeName zone name dhcid family address 0 r ⌝ }
 {
     let q = Request {
-        kind: 4,
+        kind: REMOVE_NAME,
         family: family,
         policy: 0,
         name: name,

@@ -9,9 +9,9 @@ use lib.ListN.{getElem?}
 use Rattle.octets.specs.Compare.{sameOctets}
 use Rattle.dname.specs.Name.{key}
 use Rattle.octets.specs.Count.{Octets, member, distinct, Counts}
-use Rattle.addresses.specs.Addresses.{Family, four, six, Addresses, nothing, mark}
+use Rattle.addresses.specs.Addresses.{Family, four, six, Addresses, nothing, including, excluding}
 use Rattle.octets.proofs.CountLaws.{counts-nothing, counts-list}
-use Rattle.update.specs.Rules.{Host, Zone, there, GoodHost, Form, with, put, Update, keepOthers, heldBy, empty, address, requestA, requestB, removeAddress, removeName}
+use Rattle.update.specs.Rules.{Host, Zone, there, GoodHost, Form, with, Update, keepOthers, heldBy, empty, requestA, requestB, removeAddress, removeName, withName, withoutName, withAddress, withoutAddress, deleteName}
 use Rattle.job.specs.Jobs.{add, remove, Arguments, End, conflict, gone, ended, Job, fresh, after, afterFirst, afterSecond, step, Sends, hasEnded, sends}
 use Rattle.serial.specs.Demand.{Calls, Promises, noJob, oneMore, start, stepped, verdict, stands, times, nobody, next, Explains, Story, HeldHaveAddress, Serializable}
 use Rattle.update.proofs.ZoneLaws.{some≢none}
@@ -156,11 +156,11 @@ abbrev z₀ : Zone
 z₀ = heldByX oneAddress
 
 pub p12-ends : (r₄ z₀ xRemoves yAdds .job .stage ≡ ended gone) × (r₃ z₀ xRemoves yAdds .job .stage ≡ ended (conflict 2))
-unfolding heldByX xHost oneAddress xRemoves yAdds pipe step fresh requestA requestB removeAddress removeName after afterFirst afterSecond heldBy sameOctets key address with mark put empty member
+unfolding heldByX xHost oneAddress xRemoves yAdds pipe step fresh requestA requestB removeAddress deleteName removeName after afterFirst afterSecond heldBy sameOctets key withAddress withoutAddress with including excluding withName withoutName empty member
 p12-ends = (refl, refl)
 
 p12-gone : r₄ z₀ xRemoves yAdds .zone .at (key pipe) ≡ none
-unfolding heldByX xHost oneAddress xRemoves yAdds pipe step fresh requestA requestB removeAddress removeName after afterFirst heldBy sameOctets key address with mark put empty member
+unfolding heldByX xHost oneAddress xRemoves yAdds pipe step fresh requestA requestB removeAddress deleteName removeName after afterFirst heldBy sameOctets key withAddress withoutAddress with including excluding withName withoutName empty member
 p12-gone = refl
 
 pub p12 : Story byRule
@@ -193,14 +193,14 @@ p12-order = record { each = each; inTurn = next 1 yAdds (conflict 2) (conflict 2
     y-conflict = unfold heldByX xHost oneAddress yAdds pipe step fresh requestA requestB after heldBy sameOctets key in sends (sends hasEnded)
 
     x-gone : Sends xRemoves z₀ (fresh xRemoves) (r₄ z₀ xRemoves yAdds .zone) gone
-    x-gone = unfold heldByX xHost oneAddress xRemoves yAdds pipe step fresh requestA requestB removeAddress removeName after afterFirst afterSecond heldBy sameOctets key address with mark put empty member in sends (sends hasEnded)
+    x-gone = unfold heldByX xHost oneAddress xRemoves yAdds pipe step fresh requestA requestB removeAddress deleteName removeName after afterFirst afterSecond heldBy sameOctets key withAddress withoutAddress with including excluding withName withoutName empty member in sends (sends hasEnded)
 
 -- The same from a zone that demand 3 does not ask about: X holds the name, with no address.
 abbrev bare₀ : Zone
 bare₀ = heldByX nothing
 
 bare-ends : (r₄ bare₀ xRemoves yAdds .job .stage ≡ ended gone) × (r₃ bare₀ xRemoves yAdds .job .stage ≡ ended (conflict 2))
-unfolding heldByX xHost xRemoves yAdds pipe step fresh requestA requestB removeAddress removeName after afterFirst afterSecond heldBy sameOctets key address with mark put empty member
+unfolding heldByX xHost xRemoves yAdds pipe step fresh requestA requestB removeAddress deleteName removeName after afterFirst afterSecond heldBy sameOctets key withAddress withoutAddress with including excluding withName withoutName empty member
 bare-ends = (refl, refl)
 
 pub from-bare : Story byRule

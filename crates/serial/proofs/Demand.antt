@@ -13,10 +13,10 @@ use borrow.Author.Tests.{eq-eqb, ne-eqb}
 use Rattle.dname.specs.Name.{key}
 use Rattle.octets.specs.Count.{Octets}
 use Rattle.addresses.specs.Addresses.{four}
-use Rattle.update.specs.Rules.{Zone, Form, keepOthers, Answer, success, YXDOMAIN, NXDOMAIN, NXRRSET, address, requestA, fits, requestB, removeAddress, removeName}
+use Rattle.update.specs.Rules.{Zone, Form, keepOthers, Answer, success, NXDOMAIN, YXDOMAIN, YXRRSET, NXRRSET, requestA, fits, requestB, removeAddress, removeName}
 use Rattle.job.specs.Jobs.{Kind, add, remove, Arguments, End, gaveUp, notOurs, gone, kept, Stage, beforeA, beforeB, beforeFirst, beforeSecond, ended, Job, firstStage, fresh, after, passed, afterFirst, afterSecond, step, sent}
 use Rattle.serial.specs.Demand.{Calls, Promises, going, Fresh, noJob, oneMore, Steps, start, stepped, refused, ownSteps, ChangedNothing, Moment, EndedFirst, verdict, stands, times, In, Before, InTurn, nobody, next, Explains, Story, Demand3, Stronger, LeftOutIdle}
-use Rattle.update.proofs.ZoneLaws.{some≢none, option-case, zone-eq, put-off}
+use Rattle.update.proofs.ZoneLaws.{address, some≢none, option-case, zone-eq, put-off}
 use Rattle.serial.proofs.ListLaws.{set-same, set-other}
 use Rattle.serial.proofs.RequestLaws.{form-step, whole, whole-sends, outcome, quiet}
 use Rattle.serial.proofs.OrderLaws.{serial, Agree, form-serial, times-in}
@@ -43,6 +43,7 @@ sent-after n NXDOMAIN = go (eqb n 6)
     go : (t : Bool) → Sent (cond t (ended (gaveUp n)) (beforeA n)) n
     go true = λ m e. some-eq e
     go false = refl
+sent-after n YXRRSET = λ m e. some-eq e
 sent-after n NXRRSET = λ m e. some-eq e
 sent-after n Answer.noRoom = λ m e. some-eq e
 

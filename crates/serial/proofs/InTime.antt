@@ -8,7 +8,7 @@ use native.Mathlib.Decide.{ℕ-discrete}
 use native.Mathlib.Omega.{arith}
 use lib.Dec.{eqb}
 use lib.ListN.{getElem?, set}
-use Rattle.update.specs.Rules.{Zone, Answer, success, YXDOMAIN, NXDOMAIN, NXRRSET, requestA, fits, requestB, removeAddress, removeName}
+use Rattle.update.specs.Rules.{Zone, Answer, success, NXDOMAIN, YXDOMAIN, YXRRSET, NXRRSET, requestA, fits, requestB, removeAddress, removeName}
 use Rattle.job.specs.Jobs.{add, remove, Arguments, End, done, conflict, noRoom, gaveUp, notOurs, gone, kept, Stage, beforeA, beforeB, beforeFirst, beforeSecond, ended, Job, possible, fresh, after, passed, afterFirst, afterSecond, step, sent}
 use Rattle.serial.specs.Demand.{Calls, Promises, going, Fresh, noJob, oneMore, Steps, start, stepped, refused, ownSteps, most, EndsInTime, NeverRefused, SixAtMost, Delivered}
 use Rattle.update.proofs.ZoneLaws.{some≢none}
@@ -27,6 +27,7 @@ fits-after j n NXDOMAIN k = go (eqb n 6)
     go : (t : Bool) → Fits j (cond t (ended (gaveUp n)) (beforeA n))
     go true = tt
     go false = k
+fits-after j n YXRRSET k = tt
 fits-after j n NXRRSET k = tt
 fits-after j n Answer.noRoom k = tt
 

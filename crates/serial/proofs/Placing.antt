@@ -18,10 +18,10 @@ use Rattle.octets.proofs.CompareLaws.{same-self}
 use Rattle.dname.specs.Name.{key}
 use Rattle.octets.specs.Count.{Octets}
 use Rattle.octets.proofs.CountLaws.{same-no, same-dec, counts-eq}
-use Rattle.update.specs.Rules.{Host, Zone, there, GoodHost, Form, put, NXDOMAIN, atName, heldBy, empty, address, newHost, left, fits}
+use Rattle.update.specs.Rules.{Host, Zone, there, GoodHost, Form, NXDOMAIN, atName, heldBy, empty, newHost, left, fits}
 use Rattle.job.specs.Jobs.{add, remove, Arguments, End, done, conflict, noRoom, gaveUp, notOurs, gone, kept, Stage, beforeA, beforeB, beforeFirst, beforeSecond, ended, after, State, step}
 use Rattle.serial.specs.Demand.{Verdict, saidDone, saidConflict, removed, verdict, stands, times, In, Before}
-use Rattle.update.proofs.ZoneLaws.{some≢none, option-case, owner-eq, owner-of, address-owner, good-left, put-at, put-off}
+use Rattle.update.proofs.ZoneLaws.{put, address, some≢none, option-case, owner-eq, owner-of, address-owner, good-left, put-at, put-off}
 use Rattle.update.proofs.BareLaws.{bare, owned-bare, full, address-full, new-full, bare-new, less-bare, lacks-one}
 use Rattle.serial.proofs.RequestLaws.{state, step-A-new, step-A-full, step-A-there, step-B-absent, step-B-other, step-B-full, step-B-done, step-1-other, step-1-own, step-2-kept, step-2-gone, step-1-absent, step-2-absent, whole, whole-new, whole-absent, whole-conflict, whole-done, whole-other, whole-kept, whole-gone, outcome}
 use Rattle.serial.proofs.OrderLaws.{Says, serial, Agree, form-serial, serial-append, agree-append, agree-ext, times-append, times-in, in-append, before-left, before-cross}

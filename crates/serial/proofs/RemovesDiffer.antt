@@ -11,8 +11,8 @@ use lib.ListN.{getElem?}
 use Rattle.octets.specs.Compare.{sameOctets}
 use Rattle.dname.specs.Name.{key}
 use Rattle.octets.specs.Count.{member}
-use Rattle.addresses.specs.Addresses.{mark}
-use Rattle.update.specs.Rules.{Zone, with, put, heldBy, empty, address, requestA, left, fits, writeB, requestB, removeAddress, removeName}
+use Rattle.addresses.specs.Addresses.{including, excluding}
+use Rattle.update.specs.Rules.{Zone, with, heldBy, empty, requestA, left, fits, writeB, requestB, removeAddress, removeName, withName, withoutName, withAddress, withoutAddress, deleteName}
 use Rattle.job.specs.Jobs.{Arguments, End, done, conflict, gone, kept, Stage, ended, fresh, after, afterFirst, afterSecond, step, Sends, hasEnded, sends}
 use Rattle.serial.specs.Demand.{going, times, Story}
 use Rattle.update.proofs.ZoneLaws.{some≢none}
@@ -24,7 +24,7 @@ z₀ = heldByX oneAddress
 
 -- X removes its only address, adds it again in between, and the name is kept.
 the-ends : (r₄ z₀ xRemoves xAdds .job .stage ≡ ended kept) × (r₃ z₀ xRemoves xAdds .job .stage ≡ ended (done 2))
-unfolding heldByX xHost oneAddress xRemoves xAdds pipe step fresh requestA requestB removeAddress removeName writeB fits left after afterFirst afterSecond heldBy sameOctets key address with mark put empty member
+unfolding heldByX xHost oneAddress xRemoves xAdds pipe step fresh requestA requestB removeAddress deleteName removeName writeB fits left after afterFirst afterSecond heldBy sameOctets key withAddress withoutAddress with including excluding withName withoutName empty member
 the-ends = (refl, refl)
 
 pub the-list : Story byRule
@@ -88,7 +88,7 @@ remove-first y d m = two xRemoves z₀ y d gone Stage.beforeFirst fr refl go en 
     go = unfold heldByX xHost oneAddress xRemoves pipe step removeAddress afterFirst heldBy sameOctets key in refl
 
     en : step xRemoves (step xRemoves z₀ Stage.beforeFirst .zone) (step xRemoves z₀ Stage.beforeFirst .stage) .stage ≡ ended gone
-    en = unfold heldByX xHost oneAddress xRemoves pipe step removeAddress removeName afterFirst afterSecond heldBy sameOctets key address with mark put empty member in refl
+    en = unfold heldByX xHost oneAddress xRemoves pipe step removeAddress deleteName removeName afterFirst afterSecond heldBy sameOctets key withAddress withoutAddress with including excluding withName withoutName empty member in refl
 
 remove-second : (y : Zone) (d : End) → Sends xRemoves after-add (fresh xRemoves) y d → gone ≡ d
 remove-second y d m = two xRemoves after-add y d gone Stage.beforeFirst fr refl go en m .1
@@ -97,10 +97,10 @@ remove-second y d m = two xRemoves after-add y d gone Stage.beforeFirst fr refl 
     fr = unfold fresh xRemoves in refl
 
     go : going (step xRemoves after-add Stage.beforeFirst .stage) ≡ true
-    go = unfold heldByX xHost oneAddress xRemoves xAdds pipe step requestA requestB writeB fits left after removeAddress afterFirst heldBy sameOctets key address with mark put member in refl
+    go = unfold heldByX xHost oneAddress xRemoves xAdds pipe step requestA requestB writeB fits left after removeAddress afterFirst heldBy sameOctets key withAddress withoutAddress with including excluding withName withoutName member in refl
 
     en : step xRemoves (step xRemoves after-add Stage.beforeFirst .zone) (step xRemoves after-add Stage.beforeFirst .stage) .stage ≡ ended gone
-    en = unfold heldByX xHost oneAddress xRemoves xAdds pipe step requestA requestB writeB fits left after removeAddress removeName afterFirst afterSecond heldBy sameOctets key address with mark put empty member in refl
+    en = unfold heldByX xHost oneAddress xRemoves xAdds pipe step requestA requestB writeB fits left after removeAddress deleteName removeName afterFirst afterSecond heldBy sameOctets key withAddress withoutAddress with including excluding withName withoutName empty member in refl
 
 add-first : (y : Zone) (d : End) → Sends xAdds z₀ (fresh xAdds) y d → after-add ≡ y
 add-first y d m = two xAdds z₀ y d (done 2) (Stage.beforeA 0) fr refl go en m .0
@@ -112,7 +112,7 @@ add-first y d m = two xAdds z₀ y d (done 2) (Stage.beforeA 0) fr refl go en m 
     go = unfold heldByX xHost oneAddress xAdds pipe step requestA after sameOctets key in refl
 
     en : step xAdds (step xAdds z₀ (Stage.beforeA 0) .zone) (step xAdds z₀ (Stage.beforeA 0) .stage) .stage ≡ ended (done 2)
-    en = unfold heldByX xHost oneAddress xAdds pipe step requestA requestB writeB fits left after heldBy sameOctets key address with mark put member in refl
+    en = unfold heldByX xHost oneAddress xAdds pipe step requestA requestB writeB fits left after heldBy sameOctets key withAddress withoutAddress with including excluding withName withoutName member in refl
 
 abbrev both : List Arguments
 both = xRemoves ∷ xAdds ∷ []

@@ -1,15 +1,16 @@
 -- One step, and a whole job, by what stands at the job's name: all that the proofs above this file know of a request. Assumes nothing.
-use mathlib.Core.Path.{_≡_, refl, sym, ap, subst}
-use mathlib.Core.Bool.{true, false, _&&_}
+use mathlib.Core.Path.{_≡_, refl, sym, _∙_, ap, subst}
+use mathlib.Core.Bool.{Bool, true, false, _&&_}
 use mathlib.Core.Option.{Option, none, some}
 use Prim.Native.Nat.{ℕ, suc, _<_}
 use lib.Dec.{ltb}
 use borrow.Author.Tests.{ltb-true, ltb-false, lt-ltb}
 use borrow.Table.Steps.{cases}
-use Rattle.update.specs.Rules.{Host, Zone, Form, put, Update, NXDOMAIN, atName, heldBy, empty, address, newHost, left, fits}
+use Rattle.octets.proofs.BoolLaws.{and-left, and-right}
+use Rattle.update.specs.Rules.{Host, Zone, Form, Update, NXDOMAIN, atName, heldBy, empty, newHost, left, fits}
 use Rattle.job.specs.Jobs.{add, remove, Arguments, End, done, conflict, noRoom, notOurs, gone, kept, Stage, beforeA, beforeB, beforeFirst, beforeSecond, ended, firstStage, fresh, after, afterFirst, afterSecond, State, step, Sends, hasEnded, sends}
 use Rattle.serial.specs.Demand.{Verdict, removed, verdict}
-use Rattle.update.proofs.ZoneLaws.{some≢none, option-case, put-at, A-new, A-full, A-there, B-absent, B-other, B-full, B-done, remove-address-absent, remove-address-other, remove-address-own, remove-name-absent, remove-name-kept, remove-name-gone}
+use Rattle.update.proofs.ZoneLaws.{put, address, some≢none, option-case, put-at, A-new, A-full, A-there, B-absent, B-other, B-full, B-done, remove-address-absent, remove-address-other, remove-address-own, remove-name-absent, remove-name-other, remove-name-kept, remove-name-gone}
 use Rattle.request.proofs.RequestLaws.{form-lasts, A-effect, B-effect, remove-address-effect, remove-name-effect}
 
 abbrev pub state : Zone → Stage → State
@@ -63,11 +64,13 @@ module _ (j : Arguments) (z : Zone) where
 
     pub step-2-kept : (heldBy (u .dhcid) (h .owner) && empty h) ≡ false → step j z beforeSecond ≡ state z (ended kept)
     unfolding step afterSecond
-    step-2-kept o = rw (remove-name-kept u z h e o) refl
+    step-2-kept o = cases (heldBy (u .dhcid) (h .owner))
+        (λ d. rw (remove-name-kept u z h e d (sym (ap (λ (b : Bool). b && empty h) d) ∙ o)) refl)
+        (λ d. rw (remove-name-other u z h e d) refl)
 
     pub step-2-gone : (heldBy (u .dhcid) (h .owner) && empty h) ≡ true → step j z beforeSecond ≡ state (put (u .name) none z) (ended gone)
     unfolding step afterSecond
-    step-2-gone o = rw (remove-name-gone u z h e o) refl
+    step-2-gone o = rw (remove-name-gone u z h e (and-left (heldBy (u .dhcid) (h .owner)) (empty h) o) (and-right (heldBy (u .dhcid) (h .owner)) (empty h) o)) refl
 
   pub step-1-absent : atName u z ≡ none → step j z beforeFirst ≡ state z (ended notOurs)
   unfolding step afterFirst

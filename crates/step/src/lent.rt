@@ -1,5 +1,7 @@
 // The step of a job on a zone that is lent: 23,936 octets in the layout of the C struct, read and
 // written where they stand.
+use crate::BROKEN_ZONE;
+use crate::UNLISTED_NUMBER;
 use job::answer;
 use job::job::Job;
 use job::stage;
@@ -112,14 +114,14 @@ fn refuse(octets: &mut [u8], job: Job) -> StepAnswer
     ensures { λ r. ⌜ StepPromiseIn (now (octets .entry)) job (now (octets .exit)) r ⌝ }
 {
     let checked = lent::jespurla_zone_check_lent(octets, job.name, job.family, 0);
-    if checked == 17 {
+    if checked == BROKEN_ZONE {
         return StepAnswer {
-            refusal: 17,
+            refusal: BROKEN_ZONE,
             job: job,
         };
     }
     StepAnswer {
-        refusal: 18,
+        refusal: UNLISTED_NUMBER,
         job: job,
     }
 }
@@ -129,20 +131,20 @@ fn refuse(octets: &mut [u8], job: Job) -> StepAnswer
 pub extern "C" fn jespurla_job_step_lent(octets: &mut [u8], job: Job) -> StepAnswer
     ensures { λ r. ⌜ StepPromiseIn (now (octets .entry)) job (now (octets .exit)) r ⌝ }
 {
-    if !stage::numbers_listed(job) {
+    if !stage::are_numbers_listed(job) {
         return refuse(octets, job);
     }
-    let stage = job.stage;
-    if stage == 1 {
+    let at = job.stage;
+    if at == stage::BEFORE_A {
         return step_a(octets, job);
     }
-    if stage == 2 {
+    if at == stage::BEFORE_B {
         return step_b(octets, job);
     }
-    if stage == 11 {
+    if at == stage::BEFORE_FIRST {
         return step_first(octets, job);
     }
-    if stage == 12 {
+    if at == stage::BEFORE_SECOND {
         return step_second(octets, job);
     }
     step_ended(octets, job)

@@ -13,6 +13,11 @@ ghost use Rattle.job.specs.Meaning.{numbersListed};
 ghost use Rattle.step.specs.Promise.{StepPromise};
 ghost use Rattle.step.specs.Inner.{Carried, Idle};
 
+// Refusals of document 01.
+const BROKEN_ZONE: u32 = 17;
+
+const UNLISTED_NUMBER: u32 = 18;
+
 // refusal: the number of document 01's table, 0 where there is none.
 #[repr(C)]
 pub struct Stepped {
@@ -118,15 +123,15 @@ fn refuse(zone: Zone, job: Job) -> Stepped
     ensures { λ r. ⌜ StepPromise zone job r ⌝ }
 {
     let checked = request::jespurla_zone_check(zone, job.name, job.family, 0);
-    if checked == 17 {
+    if checked == BROKEN_ZONE {
         return Stepped {
-            refusal: 17,
+            refusal: BROKEN_ZONE,
             zone: zone,
             job: job,
         };
     }
     Stepped {
-        refusal: 18,
+        refusal: UNLISTED_NUMBER,
         zone: zone,
         job: job,
     }
@@ -137,20 +142,20 @@ fn refuse(zone: Zone, job: Job) -> Stepped
 pub extern "C" fn jespurla_job_step(zone: Zone, job: Job) -> Stepped
     ensures { λ r. ⌜ StepPromise zone job r ⌝ }
 {
-    if !stage::numbers_listed(job) {
+    if !stage::are_numbers_listed(job) {
         return refuse(zone, job);
     }
-    let stage = job.stage;
-    if stage == 1 {
+    let at = job.stage;
+    if at == stage::BEFORE_A {
         return step_a(zone, job);
     }
-    if stage == 2 {
+    if at == stage::BEFORE_B {
         return step_b(zone, job);
     }
-    if stage == 11 {
+    if at == stage::BEFORE_FIRST {
         return step_first(zone, job);
     }
-    if stage == 12 {
+    if at == stage::BEFORE_SECOND {
         return step_second(zone, job);
     }
     step_ended(zone, job)

@@ -8,11 +8,11 @@ use lib.Dec.{eqb}
 use borrow.Author.Tests.{eqb-true, ne-eqb}
 use Rattle.octets.proofs.BoolLaws.{and-left, and-right}
 use Rattle.octets.specs.Compare.{sameOctets}
-use Rattle.octets.specs.Count.{Octets, Counts, one}
-use Rattle.addresses.specs.Addresses.{Family, four, six, Addresses, nothing, mark}
-use Rattle.octets.proofs.CountLaws.{same-no, same-dec, counts-le, counts-none, counts-mark}
-use Rattle.update.specs.Rules.{Host, Zone, there, GoodHost, isFamily, with, Update, Policy, keepOthers, oneOfFamily, onlyThis, heldBy, empty, address, newHost, left, fits}
-use Rattle.update.proofs.ZoneLaws.{Named, owner-eq, address-own, new-own, good-add, good-new}
+use Rattle.octets.specs.Count.{Octets, Counts}
+use Rattle.addresses.specs.Addresses.{Family, four, six, Addresses, nothing, including, excluding}
+use Rattle.octets.proofs.CountLaws.{same-no, same-dec, counts-le, counts-none, one, counts-mark}
+use Rattle.update.specs.Rules.{Host, Zone, there, GoodHost, isFamily, with, Update, Policy, keepOthers, oneOfFamily, onlyThis, heldBy, empty, withAddress, withoutAddress, newHost, left, fits}
+use Rattle.update.proofs.ZoneLaws.{Named, owner-eq, address, address-own, new-own, good-add, good-new}
 
 -- ---- a name held without an address
 
@@ -92,7 +92,7 @@ bare-new u p h g o e = ap (address u true) (bare-left u p h g o e)
 
 -- The first remove request at a bare name leaves it bare.
 less-blank : (u : Update) (d : Octets) (f : Family) → u .family ≡ f → bare (address u false (blank (some d))) ≡ true
-unfolding bare address with mark empty
+unfolding bare withoutAddress with excluding empty
 less-blank u d four p = rw p
 less-blank u d six p = rw p
 

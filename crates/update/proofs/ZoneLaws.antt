@@ -9,11 +9,12 @@ use borrow.Author.Tests.{ltb-true, lt-ltb, le-ltb}
 use Rattle.octets.specs.Compare.{sameOctets}
 use Rattle.octets.proofs.CompareLaws.{same-self, same-true}
 use Rattle.dname.specs.Name.{key}
-use Rattle.octets.specs.Count.{Octets, Counts, one}
-use Rattle.addresses.specs.Addresses.{Family, four, six, Addresses, nothing, mark}
-use Rattle.octets.proofs.CountLaws.{same-yes, same-no, same-dec, counts-eq, counts-nothing, counts-ext, counts-mark}
+use Rattle.octets.specs.Count.{Octets, Counts}
+use Rattle.addresses.specs.Addresses.{Family, four, six, Addresses, nothing}
+use Rattle.octets.proofs.CountLaws.{same-yes, same-no, same-dec, counts-eq, counts-nothing, counts-ext, one, counts-mark}
+use Rattle.addresses.proofs.SetLaws.{mark, mark-has, mark-count, mark-counts}
 use Rattle.addresses.proofs.SetLaws.{set-eq}
-use Rattle.update.specs.Rules.{Host, Zone, there, GoodHost, Form, isFamily, with, put, Update, Policy, keepOthers, oneOfFamily, onlyThis, success, YXDOMAIN, NXDOMAIN, NXRRSET, noRoom, says, atName, ownFamily, heldBy, empty, address, newHost, requestA, left, fits, writeB, requestB, removeAddress, removeName}
+use Rattle.update.specs.Rules.{Host, Zone, there, GoodHost, Form, isFamily, with, atKey, withName, withoutName, Update, Policy, keepOthers, oneOfFamily, onlyThis, success, YXDOMAIN, NXDOMAIN, YXRRSET, NXRRSET, noRoom, says, atName, ownFamily, heldBy, empty, withAddress, withoutAddress, newHost, requestA, left, fits, writeB, requestB, removeAddress, deleteName, removeName}
 
 pub some≢none : {A : Type 0} {a : A} → _≡_ {A = Option A} (some a) none → ⊥
 some≢none {a = a} e = let z : _≡_ {A = ℕ} 0 1 = cc in omega arith
@@ -64,27 +65,40 @@ family-other four six n = refl
 family-other six four n = refl
 family-other six six n = absurd (n refl)
 
+-- a host with the update's address, or without it: one name for both, by which laws speak of both
+abbrev pub address : Update → Bool → Host → Host
+address u true h = withAddress u h
+address u false h = withoutAddress u h
+
+pub address-is : (u : Update) (v : Bool) (h : Host) → address u v h ≡ with (u .family) (mark (u .address) v (ownFamily u h)) h
+address-is u true h = unfold withAddress in refl
+address-is u false h = unfold withoutAddress in refl
+
 module _ (u : Update) (v : Bool) (h : Host) where
+  own-family : address u v h .addresses (u .family) ≡ mark (u .address) v (ownFamily u h)
+  unfolding with
+  own-family = ap (λ (k : Host). k .addresses (u .family)) (address-is u v h) ∙ rw (family-self (u .family)) refl
+
   pub address-owner : address u v h .owner ≡ h .owner
-  unfolding address with
-  address-owner = refl
+  unfolding with
+  address-owner = ap (λ (k : Host). k .owner) (address-is u v h)
 
   -- the address itself, another of its family, one of another family
   pub address-own : address u v h .addresses (u .family) .has (u .address) ≡ v
-  unfolding address with mark
-  address-own = rw (family-self (u .family), same-self (u .address)) refl
+  address-own =
+      ap (λ (s : Addresses). s .has (u .address)) own-family ∙ mark-has (u .address) v (ownFamily u h) (u .address)
+      ∙ rw (same-self (u .address)) refl
 
   pub address-other : (a : Octets) → ¬ (u .address ≡ a) → address u v h .addresses (u .family) .has a ≡ h .addresses (u .family) .has a
-  unfolding address with mark
-  address-other a n = rw (family-self (u .family), same-no (u .address) a n) refl
+  address-other a n =
+      ap (λ (s : Addresses). s .has a) own-family ∙ mark-has (u .address) v (ownFamily u h) a ∙ rw (same-no (u .address) a n) refl
 
   pub address-family : (f : Family) → ¬ (u .family ≡ f) → address u v h .addresses f ≡ h .addresses f
-  unfolding address with
-  address-family f n = rw (family-other (u .family) f n) refl
+  unfolding with
+  address-family f n = ap (λ (k : Host). k .addresses f) (address-is u v h) ∙ rw (family-other (u .family) f n) refl
 
   pub address-count : address u v h .addresses (u .family) .count ≡ (h .addresses (u .family) .count + one v) - one (h .addresses (u .family) .has (u .address))
-  unfolding address with mark
-  address-count = rw (family-self (u .family)) refl
+  address-count = ap (λ (s : Addresses). s .count) own-family ∙ mark-count (u .address) v (ownFamily u h)
 
 module _ (f : Family) (h : Host) where
   pub left-owner : (p : Policy) → left f p h .owner ≡ h .owner
@@ -146,8 +160,8 @@ good-with f s h n c g = record { atMostFour = λ e. few (isFamily f e) e; counte
     go false e = g .counted e
 
 mark-few : (u : Update) (h : Host) → GoodHost h → fits u h ≡ true → mark (u .address) true (ownFamily u h) .count ≤ 4
-unfolding fits mark
-mark-few u h g r = go (ownFamily u h .has (u .address)) (ltb (ownFamily u h .count) 4) refl r
+unfolding fits
+mark-few u h g r = rw (mark-count (u .address) true (ownFamily u h)) (go (ownFamily u h .has (u .address)) (ltb (ownFamily u h .count) 4) refl r)
   where
     go : (v w : Bool) → ltb (ownFamily u h .count) 4 ≡ w → (v || w) ≡ true → (ownFamily u h .count + 1) - one v ≤ 4
     go true w e r = let n = g .atMostFour (u .family) in omega arith
@@ -155,16 +169,18 @@ mark-few u h g r = go (ownFamily u h .has (u .address)) (ltb (ownFamily u h .cou
     go false false e r = absurd (true≢false (sym r))
 
 less-few : (u : Update) (h : Host) → GoodHost h → mark (u .address) false (ownFamily u h) .count ≤ 4
-unfolding mark
-less-few u h g = let n = g .atMostFour (u .family) in omega arith
+less-few u h g =
+    let n = g .atMostFour (u .family) in
+    let m = mark-count (u .address) false (ownFamily u h) in
+    omega arith
 
 pub good-add : (u : Update) (h : Host) → GoodHost h → fits u h ≡ true → GoodHost (address u true h)
-unfolding address
-good-add u h g r = good-with (u .family) (mark (u .address) true (ownFamily u h)) h (mark-few u h g r) (unfold mark in counts-mark (u .address) true (g .counted (u .family))) g
+unfolding withAddress
+good-add u h g r = good-with (u .family) (mark (u .address) true (ownFamily u h)) h (mark-few u h g r) (mark-counts (u .address) true (ownFamily u h) (g .counted (u .family))) g
 
 pub good-remove : (u : Update) (h : Host) → GoodHost h → GoodHost (address u false h)
-unfolding address
-good-remove u h g = good-with (u .family) (mark (u .address) false (ownFamily u h)) h (less-few u h g) (unfold mark in counts-mark (u .address) false (g .counted (u .family))) g
+unfolding withoutAddress
+good-remove u h g = good-with (u .family) (mark (u .address) false (ownFamily u h)) h (less-few u h g) (mark-counts (u .address) false (ownFamily u h) (g .counted (u .family))) g
 
 pub good-left : (f : Family) (p : Policy) (h : Host) → GoodHost h → GoodHost (left f p h)
 unfolding left
@@ -178,24 +194,38 @@ good-new u = good-add u (record { owner = some (u .dhcid); addresses = λ f. not
 
 -- ---- the zone at a name that is written, and at any other
 
+-- the zone with a host at a name, or without that name: one name for both, by which laws speak of both
+abbrev pub put : Octets → Option Host → Zone → Zone
+put n (some h) z = withName n h z
+put n none z = withoutName n z
+
+pub put-has : (n : Octets) (v : Option Host) (z : Zone) (k : Octets) → put n v z .at k ≡ cond (sameOctets (key n) k) v (z .at k)
+put-has n (some h) z k = unfold withName in refl
+put-has n none z k = unfold withoutName in refl
+
 pub put-at : (n : Octets) (v : Option Host) (z : Zone) → put n v z .at (key n) ≡ v
-unfolding put
-put-at n v z = rw (same-self (key n))
+put-at n v z = put-has n v z (key n) ∙ rw (same-self (key n)) refl
 
 pub put-off : (n : Octets) (v : Option Host) (z : Zone) (k : Octets) → ¬ (key n ≡ k) → put n v z .at k ≡ z .at k
-unfolding put
-put-off n v z k q = rw (same-no (key n) k q)
+put-off n v z k q = put-has n v z k ∙ rw (same-no (key n) k q) refl
 
 pub put-size : (n : Octets) (v : Option Host) (z : Zone) → put n v z .size ≡ (z .size + one (there v)) - one (there (z .at (key n)))
-unfolding put
-put-size n v z = refl
+put-size n (some h) z = unfold withName in go (there (atKey n z))
+  where
+    go : (b : Bool) → cond b (z .size) (z .size + 1) ≡ (z .size + 1) - one b
+    go true = omega arith
+    go false = omega arith
+put-size n none z = unfold withoutName in go (there (atKey n z))
+  where
+    go : (b : Bool) → cond b (z .size - 1) (z .size) ≡ (z .size + 0) - one b
+    go true = omega arith
+    go false = omega arith
 
 -- what is written at a name is what stood there already, exactly when the zone stays as it is
 pub put-same : (n : Octets) (h : Host) (z : Zone) → z .at (key n) ≡ some h → put n (some h) z ≡ z
-unfolding put
 put-same n h z e =
-    let m : (z .size + 1) - one (there (z .at (key n))) ≡ z .size = rw e (omega arith) in
-    let f : _≡_ {A = Octets → Option Host} (λ k. cond (sameOctets (key n) k) (some h) (z .at k)) (z .at) = fun-ext (λ k. go k (same-dec (key n) k)) in
+    let m : put n (some h) z .size ≡ z .size = put-size n (some h) z ∙ rw e (omega arith) in
+    let f : put n (some h) z .at ≡ z .at = fun-ext (λ k. put-has n (some h) z k ∙ go k (same-dec (key n) k)) in
     λ i. record { size = m i; at = f i }
   where
     go : (k : Octets) → Dec (key n ≡ k) → cond (sameOctets (key n) k) (some h) (z .at k) ≡ z .at k
@@ -210,12 +240,13 @@ there-cond true u v = refl
 there-cond false u v = refl
 
 pub named-put : (n : Octets) (v : Option Host) (z : Zone) → Named z → Named (put n v z)
-unfolding put
-named-put n v z c = counts-ext (λ k. there-cond (sameOctets (key n) k) v (z .at k)) (counts-mark (key n) (there v) c)
+named-put n v z c =
+    subst (λ (m : ℕ). Counts m (λ k. there (put n v z .at k))) (sym (put-size n v z))
+    (counts-ext (λ k. there-cond (sameOctets (key n) k) v (z .at k) ∙ ap there (sym (put-has n v z k))) (counts-mark (key n) (there v) c))
 
 pub form-put : (n : Octets) (v : Option Host) (z : Zone) → Form z → ((h : Host) → v ≡ some h → GoodHost h)
     → (z .size + one (there v)) - one (there (z .at (key n))) ≤ 64 → Form (put n v z)
-form-put n v z g f l = record { few = unfold put in l; names = named-put n v z (g .names); hosts = λ k h e. host k h e (same-dec (key n) k) }
+form-put n v z g f l = record { few = subst (λ (m : ℕ). m ≤ 64) (sym (put-size n v z)) l; names = named-put n v z (g .names); hosts = λ k h e. host k h e (same-dec (key n) k) }
   where
     host : (k : Octets) (h : Host) → put n v z .at k ≡ some h → Dec (key n ≡ k) → GoodHost h
     host k h e (yes p) = f h (sym (put-at n v z) ∙ ap (put n v z .at) p ∙ e)
@@ -282,10 +313,14 @@ module _ (u : Update) (z : Zone) where
     unfolding removeAddress
     remove-address-own o = rw (e, removeAddress, o)
 
-    pub remove-name-kept : (heldBy (u .dhcid) (h .owner) && empty h) ≡ false → removeName u z ≡ says NXRRSET z
+    pub remove-name-other : heldBy (u .dhcid) (h .owner) ≡ false → removeName u z ≡ says NXRRSET z
     unfolding removeName
-    remove-name-kept o = rw (e, removeName, o)
+    remove-name-other o = rw (e, removeName, o)
 
-    pub remove-name-gone : (heldBy (u .dhcid) (h .owner) && empty h) ≡ true → removeName u z ≡ says success (put (u .name) none z)
-    unfolding removeName
-    remove-name-gone o = rw (e, removeName, o)
+    pub remove-name-kept : heldBy (u .dhcid) (h .owner) ≡ true → empty h ≡ false → removeName u z ≡ says YXRRSET z
+    unfolding removeName deleteName
+    remove-name-kept o a = rw (e, removeName, o, a)
+
+    pub remove-name-gone : heldBy (u .dhcid) (h .owner) ≡ true → empty h ≡ true → removeName u z ≡ says success (put (u .name) none z)
+    unfolding removeName deleteName
+    remove-name-gone o a = rw (e, removeName, o, a)

@@ -6,8 +6,8 @@ use Prim.Native.Nat.{ℕ, _+_, _-_, _≤_}
 use lib.Dec.{eqb, ltb}
 use Rattle.octets.specs.Compare.{sameOctets}
 use Rattle.dname.specs.Name.{key}
-use Rattle.octets.specs.Count.{Octets, Counts, one}
-use Rattle.addresses.specs.Addresses.{Family, four, six, Addresses, nothing, mark}
+use Rattle.octets.specs.Count.{Octets, Counts}
+use Rattle.addresses.specs.Addresses.{Family, four, six, Addresses, nothing, including, excluding}
 
 -- What stands at a name: its owner, a DHCID or none for a static name, and its addresses of each family.
 pub record Host : Type 0 where
@@ -23,6 +23,10 @@ pub record Zone : Type 0 where
 abbrev pub there : {A : Type 0} → Option A → Bool
 there none = false
 there (some a) = true
+
+-- What stands at a name.
+abbrev pub atKey : Octets → Zone → Option Host
+atKey n z = z .at (key n)
 
 -- ---- the form, as far as it shows here: at most 64 names, at most four addresses a family, and the counts count
 
@@ -47,9 +51,13 @@ isFamily six six = true
 unfoldable pub with : Family → Addresses → Host → Host
 with f s h = record { owner = h .owner; addresses = λ g. cond (isFamily f g) s (h .addresses g) }
 
--- The zone with something at a name (none: without that name).
-unfoldable pub put : Octets → Option Host → Zone → Zone
-put n v z = record { size = (z .size + one (there v)) - one (there (z .at (key n))); at = λ k. cond (sameOctets (key n) k) v (z .at k) }
+-- The zone with a host at a name.
+unfoldable pub withName : Octets → Host → Zone → Zone
+withName n h z = record { size = cond (there (atKey n z)) (z .size) (z .size + 1); at = λ k. cond (sameOctets (key n) k) (some h) (z .at k) }
+
+-- The zone without a name.
+unfoldable pub withoutName : Octets → Zone → Zone
+withoutName n z = record { size = cond (there (atKey n z)) (z .size - 1) (z .size); at = λ k. cond (sameOctets (key n) k) none (z .at k) }
 
 -- ---- the requests
 
@@ -65,7 +73,7 @@ pub data Policy : Type 0 where
   keepOthers oneOfFamily onlyThis : Policy
 
 pub data Answer : Type 0 where
-  success YXDOMAIN NXDOMAIN NXRRSET noRoom : Answer
+  success NXDOMAIN YXDOMAIN YXRRSET NXRRSET noRoom : Answer
 
 -- A request is tested and done at once: an answer, and the zone after it.
 pub record Outcome : Type 0 where
@@ -77,7 +85,7 @@ says a z = record { answer = a; zone = z }
 
 -- What stands at the update's name; its addresses of the update's family; whether a DHCID holds the name; whether it has no address.
 abbrev pub atName : Update → Zone → Option Host
-atName u z = z .at (key (u .name))
+atName u z = atKey (u .name) z
 
 abbrev pub ownFamily : Update → Host → Addresses
 ownFamily u h = h .addresses (u .family)
@@ -89,19 +97,22 @@ heldBy d (some x) = sameOctets x d
 unfoldable pub empty : Host → Bool
 empty h = eqb (h .addresses four .count) 0 && eqb (h .addresses six .count) 0
 
--- The host with the update's address, or without it.
-unfoldable pub address : Update → Bool → Host → Host
-address u v h = with (u .family) (mark (u .address) v (ownFamily u h)) h
+-- The host with the update's address, and without it.
+unfoldable pub withAddress : Update → Host → Host
+withAddress u h = with (u .family) (including (u .address) (ownFamily u h)) h
+
+unfoldable pub withoutAddress : Update → Host → Host
+withoutAddress u h = with (u .family) (excluding (u .address) (ownFamily u h)) h
 
 -- Request A: an absent name is added, with the DHCID and the address; a name that is there answers YXDOMAIN. Where it would be the 65th
 -- name there is no room.
 unfoldable pub newHost : Update → Host
-newHost u = address u true (record { owner = some (u .dhcid); addresses = λ f. nothing })
+newHost u = withAddress u (record { owner = some (u .dhcid); addresses = λ f. nothing })
 
 unfoldable pub requestA : Update → Zone → Outcome
 requestA u z =
     elim (atName u z) [
-      | none ↦ cond (ltb (z .size) 64) (says success (put (u .name) (some (newHost u)) z)) (says noRoom z)
+      | none ↦ cond (ltb (z .size) 64) (says success (withName (u .name) (newHost u) z)) (says noRoom z)
       | some h ↦ says YXDOMAIN z
     ]
 
@@ -118,7 +129,7 @@ fits u h = ownFamily u h .has (u .address) || ltb (ownFamily u h .count) 4
 -- Request B: an absent name answers NXDOMAIN, a static one or one of another owner NXRRSET. Else the deletes by policy, then the address
 -- is added unless it is there; where it would be the fifth of its family there is no room, and nothing changes.
 unfoldable pub writeB : Update → Zone → Host → Outcome
-writeB u z h = cond (fits u h) (says success (put (u .name) (some (address u true h)) z)) (says noRoom z)
+writeB u z h = cond (fits u h) (says success (withName (u .name) (withAddress u h) z)) (says noRoom z)
 
 unfoldable pub requestB : Policy → Update → Zone → Outcome
 requestB p u z =
@@ -132,13 +143,17 @@ unfoldable pub removeAddress : Update → Zone → Outcome
 removeAddress u z =
     elim (atName u z) [
       | none ↦ says NXRRSET z
-      | some h ↦ cond (heldBy (u .dhcid) (h .owner)) (says success (put (u .name) (some (address u false h)) z)) (says NXRRSET z)
+      | some h ↦ cond (heldBy (u .dhcid) (h .owner)) (says success (withName (u .name) (withoutAddress u h) z)) (says NXRRSET z)
     ]
 
--- The second remove request: a name held by the DHCID, with no address, is deleted; any other, or none, answers NXRRSET.
+-- The second remove request: a name held by the DHCID is deleted where it has no address, and answers YXRRSET where it has one; any other,
+-- or none, answers NXRRSET.
+unfoldable pub deleteName : Update → Zone → Host → Outcome
+deleteName u z h = cond (empty h) (says success (withoutName (u .name) z)) (says YXRRSET z)
+
 unfoldable pub removeName : Update → Zone → Outcome
 removeName u z =
     elim (atName u z) [
       | none ↦ says NXRRSET z
-      | some h ↦ cond (heldBy (u .dhcid) (h .owner) && empty h) (says success (put (u .name) none z)) (says NXRRSET z)
+      | some h ↦ cond (heldBy (u .dhcid) (h .owner)) (deleteName u z h) (says NXRRSET z)
     ]

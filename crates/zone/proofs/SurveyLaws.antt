@@ -12,8 +12,8 @@ use lib.Seq.{drop-cons, take-suc-set, take-set-le}
 use borrow.Author.Tests.{ltb-true, lt-ltb}
 use Rattle.dname.specs.Name.{key, sameName, nameOf, isFull}
 use Rattle.dname.proofs.NameLaws.{same-name-key, key-same-name}
-use Rattle.octets.specs.Count.{Octets, member, distinct, one}
-use Rattle.octets.proofs.CountLaws.{member-here, member-on}
+use Rattle.octets.specs.Count.{Octets, member, distinct}
+use Rattle.octets.proofs.CountLaws.{one, member-here, member-on}
 use Rattle.addresses.specs.Addresses.{list4, list6, sound}
 use Rattle.zone.specs.declared.entry.Entry.{Entry}
 use Rattle.zone.specs.declared.Zone.{Zone}

@@ -6,12 +6,12 @@ use Rattle.job.proofs.fresh.jespurla_new_remove.Tie as tie
 refusal-requires : tie.Need-refusal-requires
 refusal-requires c κs = search needs
 
-unless-requires : tie.Need-unless-requires
-unless-requires c κs = search needs
+new-job-requires : tie.Need-new-job-requires
+new-job-requires c κs = search needs
 
 returns : tie.Need-returns
 unfolding freshRemove
-returns c = rw (c .unless .ensures, c .before .refusal .ensures)
+returns c = rw (c .new-job .ensures, c .before .refusal .ensures)
 
 pub jespurla-new-remove-spec : {M : Type 1} → statement M
-jespurla-new-remove-spec = tie.close (tie.spec refusal-requires unless-requires returns)
+jespurla-new-remove-spec = tie.close (tie.spec refusal-requires new-job-requires returns)

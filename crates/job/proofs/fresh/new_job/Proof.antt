@@ -1,8 +1,8 @@
 use borrow.Author.Tests.{ne-eqb}
 use Rattle.job.specs.Promise.{newJob}
 use borrow.Author.Needs.{needs}
-use Rattle.job.proofs.fresh.unless.Statement.{statement}
-use Rattle.job.proofs.fresh.unless.Tie as tie
+use Rattle.job.proofs.fresh.new_job.Statement.{statement}
+use Rattle.job.proofs.fresh.new_job.Tie as tie
 
 returns : tie.Need-returns
 unfolding newJob
@@ -15,5 +15,5 @@ returns-2 : tie.Need-returns-2
 unfolding newJob
 returns-2 c = rw (ne-eqb _ _ (c .before .if1 .left), c .blank-job .ensures)
 
-pub unless-spec : {M : Type 1} → statement M
-unless-spec = tie.close (tie.spec returns blank-job-requires returns-2)
+pub new-job-spec : {M : Type 1} → statement M
+new-job-spec = tie.close (tie.spec returns blank-job-requires returns-2)
