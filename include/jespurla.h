@@ -238,6 +238,7 @@ typedef struct {
 #define JESPURLA_NOERROR 0
 #define JESPURLA_NXDOMAIN 3
 #define JESPURLA_YXDOMAIN 6
+#define JESPURLA_YXRRSET 7
 #define JESPURLA_NXRRSET 8
 #define JESPURLA_NO_ROOM 256
 
@@ -291,7 +292,7 @@ jespurla_answered jespurla_request_remove_address(jespurla_zone zone, jespurla_n
                                                   jespurla_address address);
 
 /* The second remove request: deletes a name that the DHCID holds and that has no address. NXRRSET
- * where the DHCID does not hold the name or an address is left. */
+ * where the DHCID does not hold the name, YXRRSET where it does and an address is left. */
 jespurla_answered jespurla_request_remove_name(jespurla_zone zone, jespurla_name name,
                                                jespurla_dhcid dhcid, uint8_t family,
                                                jespurla_address address);

@@ -61,7 +61,8 @@ static const char *answer_text(uint32_t answer)
     case JESPURLA_NOERROR: return "NOERROR, done";
     case JESPURLA_NXDOMAIN: return "NXDOMAIN, the name is absent";
     case JESPURLA_YXDOMAIN: return "YXDOMAIN, the name is there";
-    case JESPURLA_NXRRSET: return "NXRRSET, the name is not theirs or keeps an address";
+    case JESPURLA_YXRRSET: return "YXRRSET, the name keeps an address";
+    case JESPURLA_NXRRSET: return "NXRRSET, the name is not theirs";
     case JESPURLA_NO_ROOM: return "no room";
     default: return "no such answer";
     }

@@ -329,8 +329,8 @@ pub fn request_remove_address(
 }
 
 /// The second remove request: deletes a name that the DHCID holds and that has
-/// no address. NXRRSET where the DHCID does not hold the name or an address is
-/// left. Refusals as in [`zone_check`].
+/// no address. NXRRSET where the DHCID does not hold the name, YXRRSET
+/// where it does and an address is left. Refusals as in [`zone_check`].
 #[inline]
 pub fn request_remove_name(
     zone: &Zone,

@@ -149,8 +149,10 @@ pub const NOERROR: u32 = 0;
 pub const NXDOMAIN: u32 = 3;
 /// The answer where the name is there.
 pub const YXDOMAIN: u32 = 6;
-/// The answer where the name is static or held by another, or keeps an
-/// address.
+/// The answer of the second remove request where an address is left.
+pub const YXRRSET: u32 = 7;
+/// The answer where the name is static or held by another, and of a remove
+/// where it is absent.
 pub const NXRRSET: u32 = 8;
 /// The answer where it would be the 65th name or the fifth address.
 pub const NO_ROOM: u32 = 256;

@@ -100,7 +100,7 @@ fn requests_are_tested_and_done_at_once() {
     );
     assert_eq!(
         answer(request_remove_name(zone, &name, &X, FAMILY_6, &HERE)),
-        Ok(NXRRSET)
+        Ok(YXRRSET)
     );
     let bare = request_remove_address(zone, &name, &X, FAMILY_6, &HERE).zone;
     let gone = request_remove_name(&bare, &name, &X, FAMILY_6, &HERE).zone;
@@ -128,7 +128,7 @@ fn requests_on_a_lent_zone_leave_what_those_by_value_hand_back() {
     let told = request_b_lent(&mut zone, &name, &X, FAMILY_6, &HERE, 3);
     assert_eq!((told.ok(), zone), (Err(Refusal(18)), added));
     let told = request_remove_name_lent(&mut zone, &name, &X, FAMILY_6, &HERE);
-    assert_eq!((told.ok(), zone), (Ok(NXRRSET), added));
+    assert_eq!((told.ok(), zone), (Ok(YXRRSET), added));
 
     let moved = request_b(&zone, &name, &X, FAMILY_4, &HERE, ONLY_THIS).zone;
     let told = request_b_lent(&mut zone, &name, &X, FAMILY_4, &HERE, ONLY_THIS);

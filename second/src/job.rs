@@ -91,7 +91,7 @@ impl Job {
             }
             BEFORE_SECOND => match zone::send_remove_second(zone, name, dhcid) {
                 SecondAnswer::Gone => GONE,
-                SecondAnswer::Kept => KEPT,
+                SecondAnswer::NotHeld | SecondAnswer::HasAddress => KEPT,
             },
             ended => ended,
         };

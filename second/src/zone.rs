@@ -222,7 +222,10 @@ pub enum FirstAnswer {
 #[derive(Clone, Copy, PartialEq, Eq, Debug)]
 pub enum SecondAnswer {
     Gone,
-    Kept,
+    /// The name is absent or not held by the DHCID (NXRRSET).
+    NotHeld,
+    /// It is held by the DHCID and has an address (YXRRSET).
+    HasAddress,
 }
 
 /// The zone's form: refusal 17 unless every name is full and there once, and
@@ -402,11 +405,14 @@ pub(crate) fn send_remove_first(
 /// Second remove request on checked input.
 pub(crate) fn send_remove_second(zone: &mut Zone, name: &Name, dhcid: &Dhcid) -> SecondAnswer {
     match zone.find(name) {
-        Some(entry) if entry.is_held_by(dhcid) && entry.v4.count == 0 && entry.v6.count == 0 => {
+        Some(entry) if entry.is_held_by(dhcid) => {
+            if entry.v4.count != 0 || entry.v6.count != 0 {
+                return SecondAnswer::HasAddress;
+            }
             entry.kind = FREE;
             SecondAnswer::Gone
         }
-        _ => SecondAnswer::Kept,
+        _ => SecondAnswer::NotHeld,
     }
 }
 
@@ -627,12 +633,13 @@ mod tests {
         assert_eq!(first(&mut z, &X, 4, 7), FirstAnswer::Passed);
         assert!(same(&z, &zone(&[held(0, X, &[1], &[5])])));
         assert_eq!(first(&mut z, &X, 4, 1), FirstAnswer::Passed);
-        assert_eq!(second(&mut z, &X), SecondAnswer::Kept);
+        assert_eq!(second(&mut z, &X), SecondAnswer::HasAddress);
+        assert_eq!(second(&mut z, &Y), SecondAnswer::NotHeld);
         assert_eq!(first(&mut z, &X, 6, 5), FirstAnswer::Passed);
-        assert_eq!(second(&mut z, &Y), SecondAnswer::Kept);
+        assert_eq!(second(&mut z, &Y), SecondAnswer::NotHeld);
         assert!(same(&z, &zone(&[held(0, X, &[], &[])])));
         assert_eq!(second(&mut z, &X), SecondAnswer::Gone);
-        assert_eq!(second(&mut z, &X), SecondAnswer::Kept);
+        assert_eq!(second(&mut z, &X), SecondAnswer::NotHeld);
         assert_eq!(first(&mut z, &X, 4, 1), FirstAnswer::NotOurs);
         assert!(same(&z, &Zone::EMPTY));
     }
@@ -647,7 +654,7 @@ mod tests {
             request_remove_first_by_value(zone(&[fixed]), &name(0), &X, 4, &address(1));
         assert_eq!(first, Ok(FirstAnswer::NotOurs));
         let (second, z) = request_remove_second_by_value(z, &name(0), &X, 6);
-        assert_eq!(second, Ok(SecondAnswer::Kept));
+        assert_eq!(second, Ok(SecondAnswer::NotHeld));
         assert!(same(&z, &zone(&[fixed])));
     }
 

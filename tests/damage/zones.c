@@ -88,7 +88,7 @@ jespurla_answered send_by_value(call which, const jespurla_zone *zone, const req
 static bool is_answer(uint32_t answer)
 {
     return answer == JESPURLA_NOERROR || answer == JESPURLA_NXDOMAIN || answer == JESPURLA_YXDOMAIN ||
-           answer == JESPURLA_NXRRSET || answer == JESPURLA_NO_ROOM;
+           answer == JESPURLA_YXRRSET || answer == JESPURLA_NXRRSET || answer == JESPURLA_NO_ROOM;
 }
 
 static void turn_request(call which)

@@ -1,9 +1,9 @@
 // Domain names as they stand in a field of octets: labels, each under its length, to an end.
 ghost use mathlib.Core.Path.{_≡_};
 ghost use Prim.Native.Nat.{_≤_};
-ghost use lib.ListN.{length};
+ghost use lib.ListN.{length, drop};
 ghost use Rattle.dname.specs.Name.{labelsOf, shapeOf, sameName};
-ghost use Rattle.dname.specs.Reading.{Passed, number};
+ghost use Rattle.dname.specs.Reading.{Passed, PassedOne, ending, code};
 
 pub mod name;
 
@@ -22,7 +22,7 @@ pub enum Shape {
 // The most octets of a label.
 const LONGEST_LABEL: usize = 63;
 
-// What the labels of a field come to, as a number: it goes back through a register.
+// What the labels of a field come to, as a code: it goes back through a register.
 const FULL: u8 = 1;
 
 const PARTIAL: u8 = 2;
@@ -32,7 +32,7 @@ const MALFORMED: u8 = 3;
 // The place behind the label at a place; the same place where no whole label stands.
 fn past_label(rest: &[u8], at: usize) -> usize
     requires { ⌜ at ≤ length (now rest) ⌝ }
-    ensures { λ r. ⌜ Passed (now (rest .entry)) at r ⌝ }
+    ensures { λ r. ⌜ PassedOne (now (rest .entry)) at r ⌝ }
 {
     if rest.len() <= at {
         return at;
@@ -70,31 +70,35 @@ fn past_labels(rest: &[u8], at: usize) -> usize
     past_label(rest, c)
 }
 
-// The rest of a field where a label or the end is due. The octets left fall at each call. A call
-// passes over up to nine labels, so that the longest names take few calls.
-fn labels(rest: &[u8]) -> u8
-    ensures { λ r. ⌜ r ≡ number (labelsOf 0 (now (rest .entry))) ⌝ }
+// What stands at a place where no whole label does: the end of the field, the octet 0 at it, or
+// anything else.
+fn end_at(rest: &[u8], at: usize) -> u8
+    ensures { λ r. ⌜ r ≡ code (ending (drop at (now (rest .entry)))) ⌝ }
 {
-    let some = past_labels(rest, 0);
-    let at = past_labels(rest, some);
     if rest.len() <= at {
         return PARTIAL;
     }
-    let left = rest.len() - at;
-    let n = rest[at] as usize;
-    if n == 0 {
-        if left == 1 {
-            return FULL;
-        }
+    if rest[at] != 0 {
         return MALFORMED;
     }
-    if LONGEST_LABEL < n {
-        return MALFORMED;
+    if rest.len() - at == 1 {
+        return FULL;
     }
-    if left <= n {
-        return MALFORMED;
+    MALFORMED
+}
+
+// The rest of a field where a label or the end is due. The octets left fall at each call. A call
+// passes over up to nine labels, so that the longest names take few calls.
+fn labels(rest: &[u8]) -> u8
+    ensures { λ r. ⌜ r ≡ code (labelsOf 0 (now (rest .entry))) ⌝ }
+{
+    let some = past_labels(rest, 0);
+    let more = past_labels(rest, some);
+    let at = past_label(rest, more);
+    if at == more {
+        return end_at(rest, more);
     }
-    labels(&rest[at + n + 1..])
+    labels(&rest[at..])
 }
 
 // What a whole field holds. Its length is tested first: at most 255 octets are read, so at most 128

@@ -152,10 +152,10 @@ pub fn reply(kind: Kind, number: u32) -> Option<Reply> {
     match (kind, number) {
         (_, jespurla::NOERROR) => Some(Reply::Success),
         (Kind::RemoveFirst, jespurla::NXRRSET) => Some(Reply::NotOurs),
-        (Kind::RemoveSecond, jespurla::NXRRSET) => Some(Reply::Kept),
+        (Kind::RemoveSecond, jespurla::YXRRSET) => Some(Reply::YxRrset),
         (Kind::B, jespurla::NXDOMAIN) => Some(Reply::NxDomain),
         (Kind::A, jespurla::YXDOMAIN) => Some(Reply::YxDomain),
-        (Kind::B, jespurla::NXRRSET) => Some(Reply::NxRrset),
+        (Kind::B | Kind::RemoveSecond, jespurla::NXRRSET) => Some(Reply::NxRrset),
         (Kind::A | Kind::B, jespurla::NO_ROOM) => Some(Reply::NoRoom),
         _ => None,
     }

@@ -28,10 +28,10 @@ pub enum Reply {
     Success,
     YxDomain,
     NxDomain,
+    YxRrset,
     NxRrset,
     NoRoom,
     NotOurs,
-    Kept,
 }
 
 impl From<Answer> for Reply {
@@ -59,7 +59,8 @@ impl From<SecondAnswer> for Reply {
     fn from(answer: SecondAnswer) -> Reply {
         match answer {
             SecondAnswer::Gone => Reply::Success,
-            SecondAnswer::Kept => Reply::Kept,
+            SecondAnswer::NotHeld => Reply::NxRrset,
+            SecondAnswer::HasAddress => Reply::YxRrset,
         }
     }
 }

@@ -1,12 +1,12 @@
 use native.Mathlib.Omega.{arith}
 use denote.Ref.{now}
-use Rattle.dname.proofs.ReadingLaws.{passed-label}
+use Rattle.dname.proofs.ReadingLaws.{stays-end, stays-root, stays-long, stays-cut, passed-label}
 use borrow.Author.Needs.{needs}
 use Rattle.dname.proofs.past_label.Statement.{statement}
 use Rattle.dname.proofs.past_label.Tie as tie
 
 returns : tie.Need-returns
-returns c = search needs
+returns c = stays-end _ _ (c .if1 .taken) (search needs)
 
 shared-slice-read-n : tie.Need-shared-slice-read-n
 shared-slice-read-n c = search needs
@@ -15,16 +15,16 @@ cast-n : tie.Need-cast-n
 cast-n c = omega (arith, c .shared-slice-known .given (c .before .before .args .at))
 
 returns-2 : tie.Need-returns-2
-returns-2 c = search needs
+returns-2 c = stays-root _ _ (omega arith) (c .if2 .taken)
 
 returns-3 : tie.Need-returns-3
-returns-3 c = search needs
+returns-3 c = stays-long _ _ (omega arith) (c .if3 .taken)
 
 sub-if4 : tie.Need-sub-if4
 sub-if4 c = search needs
 
 returns-4 : tie.Need-returns-4
-returns-4 c = search needs
+returns-4 c = stays-cut _ _ (omega arith) (omega arith) (omega arith) (c .if4 .taken)
 
 add-result : tie.Need-add-result
 add-result c = search needs

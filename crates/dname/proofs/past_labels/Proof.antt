@@ -19,7 +19,7 @@ past-label-requires-3 : tie.Need-past-label-requires-3
 past-label-requires-3 c κs = search needs
 
 returns-3 : tie.Need-returns-3
-returns-3 c = passed-more (c .before .before .before .before .before .past-label .ensures) (c .before .before .before .past-label2 .ensures)
+returns-3 c = passed-more (c .before .before .before .before .before .past-label .ensures .passed) (c .before .before .before .past-label2 .ensures .passed)
 
 past-label-requires-4 : tie.Need-past-label-requires-4
 past-label-requires-4 c κs = search needs
@@ -27,8 +27,8 @@ past-label-requires-4 c κs = search needs
 returns-4 : tie.Need-returns-4
 returns-4 c =
     passed-more
-    (passed-more (c .before .before .before .before .before .before .past-label .ensures) (c .before .before .before .before .past-label2 .ensures))
-    (passed-more (c .before .before .past-label3 .ensures) (c .past-label4 .ensures))
+    (passed-more (c .before .before .before .before .before .before .past-label .ensures .passed) (c .before .before .before .before .past-label2 .ensures .passed))
+    (passed-more (c .before .before .past-label3 .ensures .passed) (c .past-label4 .ensures .passed))
 
 pub past-labels-spec : {M : Type 1} → statement M
 past-labels-spec =
