@@ -46,7 +46,7 @@ const ANSWERS: [u8; 32] = [
 ];
 
 // 0 for no, 1 for any other number.
-fn one_if(number: u8) -> usize
+fn bit(number: u8) -> usize
     ensures { λ r. ⌜ Honoured number r ⌝ }
 {
     if number == 0 { 0 } else { 1 }
@@ -58,7 +58,7 @@ fn one_if(number: u8) -> usize
 pub extern "C" fn jespurla_flag_decision(flags: u8, honour_s: u8, honour_n: u8) -> u32
     ensures { λ r. ⌜ r ≡ flagAnswer flags «honour_s» «honour_n» ⌝ }
 {
-    let place = (flags % 8) as usize + 8 * one_if(honour_s) + 16 * one_if(honour_n);
+    let place = (flags % 8) as usize + 8 * bit(honour_s) + 16 * bit(honour_n);
     let answer = ANSWERS[place];
     if answer == R {
         return REFUSED;

@@ -1,11 +1,12 @@
 -- What a job's struct means: its stage, its kind, and a new job. Assumes nothing.
 use mathlib.Core.Path.{_≡_, refl, sym, _∙_, ap}
-use mathlib.Core.Bool.{Bool, true, false, cond, _&&_, true≢false}
-use Prim.Native.Nat.{ℕ, zero, suc}
+use mathlib.Core.Bool.{Bool, true, false, cond}
+use mathlib.Core.Option.{some}
+use Prim.Native.Nat.{ℕ, suc}
 use native.Mathlib.Omega.{arith}
 use lib.Dec.{eqb}
 use borrow.Author.Tests.{eq-eqb}
-use Rattle.octets.proofs.BoolLaws.{and-left, and-right}
+use Rattle.octets.proofs.BoolLaws.{and-right}
 use Rattle.octets.specs.Count.{Octets}
 use Rattle.dname.specs.declared.name.Name.{Name}
 use Rattle.zone.specs.declared.entry.Dhcid.{Dhcid}
@@ -18,43 +19,33 @@ use Rattle.update.proofs.NumberLaws.{policy-zero}
 use Rattle.job.specs.declared.job.Job.{Job}
 use Rattle.job.specs.declared.fresh.NewJob.{NewJob}
 use Rattle.job.specs.Jobs.{add, remove, Arguments, Stage, beforeA, beforeB, beforeFirst, beforeSecond, ended, End, done, conflict, gaveUp, notOurs, gone, kept, among, possible, after, passed, afterFirst, afterSecond, step}
-use Rattle.job.specs.Meaning.{stageNumber, stageCount, stageOf, stageListed, canHave, isAdd, argumentsOf, jobOf, numbersListed, freshAdd, freshRemove, blank}
-use Rattle.job.proofs.StageLaws.{not-listed}
+use Rattle.job.specs.Meaning.{stageNumber, numbered, stageAt, allowed, orKept, stageCount, stageOf, canHave, isAdd, argumentsOf, jobOf, numbersListed, freshAdd, freshRemove, blank}
+use Rattle.job.proofs.StageLaws.{Listed, can-stage}
 use Rattle.job.specs.Promise.{newRefusal, newJob}
 
 -- ---- a stage's number and count stand for the stage
 
-pub stage-back : (s : Stage) (m : ℕ) → stageOf (stageNumber s) (stageCount s m) ≡ s
-unfolding stageOf stageNumber stageCount
-stage-back (beforeA n) m = refl
-stage-back (beforeB n) m = refl
-stage-back beforeFirst m = refl
-stage-back beforeSecond m = refl
-stage-back (ended (done n)) m = refl
-stage-back (ended (conflict n)) m = refl
-stage-back (ended (End.noRoom n)) m = refl
-stage-back (ended (gaveUp n)) m = refl
-stage-back (ended notOurs) m = refl
-stage-back (ended gone) m = refl
-stage-back (ended kept) m = refl
+stage-at : (s : Stage) (m : ℕ) → stageAt (stageNumber s) (stageCount s m) ≡ some s
+unfolding stageAt numbered stageNumber stageCount
+stage-at (beforeA n) m = refl
+stage-at (beforeB n) m = refl
+stage-at beforeFirst m = refl
+stage-at beforeSecond m = refl
+stage-at (ended (done n)) m = refl
+stage-at (ended (conflict n)) m = refl
+stage-at (ended (End.noRoom n)) m = refl
+stage-at (ended (gaveUp n)) m = refl
+stage-at (ended notOurs) m = refl
+stage-at (ended gone) m = refl
+stage-at (ended kept) m = refl
 
-number-listed : (s : Stage) → stageListed (stageNumber s) ≡ true
-unfolding stageNumber stageListed among
-number-listed (beforeA n) = refl
-number-listed (beforeB n) = refl
-number-listed beforeFirst = refl
-number-listed beforeSecond = refl
-number-listed (ended (done n)) = refl
-number-listed (ended (conflict n)) = refl
-number-listed (ended (End.noRoom n)) = refl
-number-listed (ended (gaveUp n)) = refl
-number-listed (ended notOurs) = refl
-number-listed (ended gone) = refl
-number-listed (ended kept) = refl
+pub stage-back : (s : Stage) (m : ℕ) → stageOf (stageNumber s) (stageCount s m) ≡ s
+unfolding stageOf
+stage-back s m = ap orKept (stage-at s m)
 
 pub can-back : (s : Stage) (m : ℕ) → canHave (stageNumber s) (stageCount s m) ≡ possible s
 unfolding canHave
-can-back s m = rw (number-listed s, stage-back s m) refl
+can-back s m = ap allowed (stage-at s m)
 
 -- ---- a step keeps the kind
 
@@ -90,42 +81,25 @@ kind-step a z beforeSecond =
     ∙ (unfold isAdd stageNumber in refl)
 kind-step a z (ended e) = refl
 
--- ---- a listed number's stage has that number
+-- ---- a job whose numbers are listed: its stage is there, has that number, and can have that count
 
-pub number-back : (s n : ℕ) → stageListed s ≡ true → stageNumber (stageOf s n) ≡ s
-unfolding stageNumber stageOf stageListed
-number-back zero n h = absurd (true≢false (sym h ∙ (unfold among in refl)))
-number-back (suc zero) n h = refl
-number-back (suc (suc zero)) n h = refl
-number-back (suc (suc (suc zero))) n h = refl
-number-back (suc (suc (suc (suc zero)))) n h = refl
-number-back (suc (suc (suc (suc (suc zero))))) n h = refl
-number-back (suc (suc (suc (suc (suc (suc zero)))))) n h = refl
-number-back (suc (suc (suc (suc (suc (suc (suc zero))))))) n h = absurd (true≢false (sym h ∙ (unfold among in refl)))
-number-back (suc (suc (suc (suc (suc (suc (suc (suc zero)))))))) n h = absurd (true≢false (sym h ∙ (unfold among in refl)))
-number-back (suc (suc (suc (suc (suc (suc (suc (suc (suc zero))))))))) n h = absurd (true≢false (sym h ∙ (unfold among in refl)))
-number-back (suc (suc (suc (suc (suc (suc (suc (suc (suc (suc zero)))))))))) n h = absurd (true≢false (sym h ∙ (unfold among in refl)))
-number-back (suc (suc (suc (suc (suc (suc (suc (suc (suc (suc (suc zero))))))))))) n h = refl
-number-back (suc (suc (suc (suc (suc (suc (suc (suc (suc (suc (suc (suc zero)))))))))))) n h = refl
-number-back (suc (suc (suc (suc (suc (suc (suc (suc (suc (suc (suc (suc (suc zero))))))))))))) n h = refl
-number-back (suc (suc (suc (suc (suc (suc (suc (suc (suc (suc (suc (suc (suc (suc zero)))))))))))))) n h = refl
-number-back (suc (suc (suc (suc (suc (suc (suc (suc (suc (suc (suc (suc (suc (suc (suc zero))))))))))))))) n h = refl
-number-back (suc (suc (suc (suc (suc (suc (suc (suc (suc (suc (suc (suc (suc (suc (suc (suc s)))))))))))))))) n h = absurd (true≢false (sym h ∙ not-listed (suc (suc (suc (suc (suc (suc (suc (suc (suc (suc (suc (suc (suc (suc (suc (suc s)))))))))))))))) (omega arith)))
+pub stage-of : (number count : ℕ) (l : Listed number count) → stageOf number count ≡ l .stage
+unfolding stageOf
+stage-of number count l = ap orKept (l .found)
 
--- ---- a job whose numbers are listed
+pub number-back : (number count : ℕ) → canHave number count ≡ true → stageNumber (stageOf number count) ≡ number
+number-back number count h = let l = can-stage number count h in ap stageNumber (stage-of number count l) ∙ l .numberIs
 
 module _ (j : Job) (h : numbersListed j ≡ true) where
-  pub listed-stage : stageListed (j .stage) ≡ true
-  unfolding numbersListed canHave
-  listed-stage =
-      and-left (stageListed (j .stage)) (possible (stageOf (j .stage) (j .count)))
-      (and-right (listed (j .family) (cond (isAdd (j .stage)) (j .policy) 0)) (stageListed (j .stage) && possible (stageOf (j .stage) (j .count))) h)
+  pub listed-stage : canHave (j .stage) (j .count) ≡ true
+  unfolding numbersListed
+  listed-stage = and-right (listed (j .family) (cond (isAdd (j .stage)) (j .policy) 0)) (canHave (j .stage) (j .count)) h
 
   pub possible-before : possible (jobOf j .stage) ≡ true
-  unfolding numbersListed canHave jobOf
+  unfolding jobOf
   possible-before =
-      and-right (stageListed (j .stage)) (possible (stageOf (j .stage) (j .count)))
-      (and-right (listed (j .family) (cond (isAdd (j .stage)) (j .policy) 0)) (stageListed (j .stage) && possible (stageOf (j .stage) (j .count))) h)
+      let l = can-stage (j .stage) (j .count) listed-stage in
+      ap possible (stage-of (j .stage) (j .count) l) ∙ l .can
 
 -- ---- a new job that is not refused
 
@@ -160,18 +134,18 @@ module _ (n : Name) (d : Dhcid) (family : ℕ) (a : Address) where
     arguments = record { kind = add; update = updateOf n d family a; policy = policyOf policy };
     stage = beforeA 0;
   }
-  unfolding jobOf argumentsOf freshAdd stageOf isAdd
+  unfolding jobOf argumentsOf freshAdd stageOf stageAt numbered stageNumber isAdd
   add-is policy = refl
 
   pub remove-is : jobOf (freshRemove n d family a) ≡ record {
     arguments = record { kind = remove; update = updateOf n d family a; policy = keepOthers };
     stage = beforeFirst;
   }
-  unfolding jobOf argumentsOf freshRemove stageOf isAdd
+  unfolding jobOf argumentsOf freshRemove stageOf stageAt numbered stageNumber isAdd
   remove-is = ap (λ (p : Policy). record { arguments = record { kind = remove; update = updateOf n d family a; policy = p }; stage = beforeFirst }) policy-zero
 
   pub add-listed : (policy : ℕ) → newRefusal (nameOf n) family policy ≡ 0 → numbersListed (freshAdd n d family a policy) ≡ true
-  unfolding numbersListed freshAdd isAdd canHave stageListed stageOf possible among
+  unfolding numbersListed freshAdd isAdd canHave stageAt numbered stageNumber possible among
   add-listed policy e = rw (new-listed (nameOf n) family policy e) refl
 
   pub add-full : (policy : ℕ) → newRefusal (nameOf n) family policy ≡ 0 → isFull (nameOf (freshAdd n d family a policy .name)) ≡ true
@@ -179,7 +153,7 @@ module _ (n : Name) (d : Dhcid) (family : ℕ) (a : Address) where
   add-full policy e = new-full (nameOf n) family policy e
 
   pub remove-listed : newRefusal (nameOf n) family 0 ≡ 0 → numbersListed (freshRemove n d family a) ≡ true
-  unfolding numbersListed freshRemove isAdd canHave stageListed stageOf possible among
+  unfolding numbersListed freshRemove isAdd canHave stageAt numbered stageNumber possible among
   remove-listed e = rw (new-listed (nameOf n) family 0 e) refl
 
   pub remove-full : newRefusal (nameOf n) family 0 ≡ 0 → isFull (nameOf (freshRemove n d family a .name)) ≡ true

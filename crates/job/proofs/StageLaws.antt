@@ -1,6 +1,7 @@
 -- The numbers of stages and counts: what the tests in src/stage.rt come to. Assumes nothing.
 use mathlib.Core.Path.{_≡_, refl, sym, _∙_, ap, subst}
-use mathlib.Core.Bool.{Bool, true, false, _&&_, _||_, or-false, true≢false}
+use mathlib.Core.Bool.{Bool, true, false, cond, _||_, or-false, true≢false}
+use mathlib.Core.Option.{Option, none, some}
 use mathlib.Core.List.{List, [], _∷_}
 use Prim.Native.Nat.{ℕ, zero, suc, _≤_, _<_}
 use native.Mathlib.Omega.{arith}
@@ -8,18 +9,9 @@ use lib.Dec.{eqb, leb}
 use borrow.Author.Tests.{lt-leb, le-leb, ne-eqb, eqb-true}
 use Rattle.update.specs.Meaning.{listed}
 use Rattle.job.specs.declared.job.Job.{Job}
-use Rattle.job.specs.Jobs.{among, possible}
-use Rattle.job.specs.Meaning.{stageOf, stageListed, canHave, isAdd, numbersListed}
-
--- a number past all of a list is not among them
-abbrev Below : ℕ → List ℕ → Type 0
-Below b [] = Unit
-Below b (x ∷ l) = (x ≤ b) × Below b l
-
-past : (n b : ℕ) (l : List ℕ) → b < n → Below b l → among n l ≡ false
-unfolding among
-past n b [] h w = refl
-past n b (x ∷ l) h w = rw (ne-eqb n x (λ e. let v : x ≤ b = w .0 in omega arith)) (past n b l h (w .1))
+use Rattle.job.specs.Jobs.{Stage, among, possible}
+use Rattle.job.specs.Meaning.{stageNumber, stages, numbered, stageAt, allowed, canHave, isAdd, numbersListed}
+use Rattle.update.proofs.ZoneLaws.{some≢none}
 
 -- a fact of the numbers of a list holds of each number among them
 abbrev pub Each : (ℕ → Type 0) → List ℕ → Type 0
@@ -35,27 +27,75 @@ each-among P n (x ∷ l) h e = go (eqb n x) refl e (each-among P n l (h .1))
     go true p q f = subst P (sym (eqb-true n x p)) (h .0)
     go false p q f = f q
 
+-- ---- the stage of a number
+
+-- the stage that is found has the number, and whatever holds of all stages that were looked at
+numbered-number : (n : ℕ) (l : List Stage) (s : Stage) → numbered n l ≡ some s → stageNumber s ≡ n
+unfolding numbered
+numbered-number n [] s e = absurd (some≢none (sym e))
+numbered-number n (t ∷ l) s e = go (eqb (stageNumber t) n) refl e (numbered-number n l s)
+  where
+    go : (b : Bool) → eqb (stageNumber t) n ≡ b → cond b (some t) (numbered n l) ≡ some s → (numbered n l ≡ some s → stageNumber s ≡ n) → stageNumber s ≡ n
+    go true p q f = let r : t ≡ s = cc in ap stageNumber (sym r) ∙ eqb-true (stageNumber t) n p
+    go false p q f = f q
+
+abbrev EachStage : (Stage → Type 0) → List Stage → Type 0
+EachStage P [] = Unit
+EachStage P (s ∷ l) = P s × EachStage P l
+
+pub each-numbered : (P : Stage → Type 0) (n : ℕ) (l : List Stage) (s : Stage) → EachStage P l → numbered n l ≡ some s → P s
+unfolding numbered
+each-numbered P n [] s h e = absurd (some≢none (sym e))
+each-numbered P n (t ∷ l) s h e = go (eqb (stageNumber t) n) e (each-numbered P n l s (h .1))
+  where
+    go : (b : Bool) → cond b (some t) (numbered n l) ≡ some s → (numbered n l ≡ some s → P s) → P s
+    go true q f = let r : t ≡ s = cc in subst P r (h .0)
+    go false q f = f q
+
+pub record Listed (number count : ℕ) : Type 0 where
+  pub stage : Stage
+  pub found : stageAt number count ≡ some stage
+  pub can : possible stage ≡ true
+  pub numberIs : stageNumber stage ≡ number
+
+pub can-stage : (number count : ℕ) → canHave number count ≡ true → Listed number count
+unfolding canHave
+can-stage number count h = go (stageAt number count) refl h
+  where
+    go : (o : Option Stage) → stageAt number count ≡ o → allowed o ≡ true → Listed number count
+    go none e q = absurd (true≢false (sym q))
+    go (some s) e q = record { stage = s; found = e; can = q; numberIs = numbered-number number (stages count) s (unfold stageAt in e) }
+
+-- a number above all of the list has none
+not-listed : (n count : ℕ) → 15 < n → stageAt n count ≡ none
+unfolding stageAt numbered stageNumber
+not-listed n count h =
+    rw (below 1 (omega arith), below 2 (omega arith), below 3 (omega arith), below 4 (omega arith), below 5 (omega arith), below 6 (omega arith), below 11 (omega arith), below 12 (omega arith), below 13 (omega arith), below 14 (omega arith), below 15 (omega arith)) refl
+  where
+    below : (k : ℕ) → k ≤ 15 → eqb k n ≡ false
+    below k l = ne-eqb k n (λ e. omega arith)
+
 -- ---- an add's stages
 
 module _ (n : ℕ) where
   pub can-a : canHave 1 n ≡ among n (0 ∷ 2 ∷ 4 ∷ [])
-  unfolding canHave stageListed stageOf possible among
+  unfolding canHave stageAt numbered stageNumber possible among
   can-a = refl
 
   pub can-b : canHave 2 n ≡ among n (1 ∷ 3 ∷ 5 ∷ [])
-  unfolding canHave stageListed stageOf possible among
+  unfolding canHave stageAt numbered stageNumber possible among
   can-b = refl
 
   pub can-conflict : canHave 4 n ≡ among n (2 ∷ 4 ∷ 6 ∷ [])
-  unfolding canHave stageListed stageOf possible among
+  unfolding canHave stageAt numbered stageNumber possible among
   can-conflict = refl
 
   pub can-gave-up : canHave 6 n ≡ eqb n 6
-  unfolding canHave stageListed stageOf possible among
+  unfolding canHave stageAt numbered stageNumber possible among
   can-gave-up = or-false (eqb n 6)
 
   pub can-nothing : canHave 0 n ≡ false
-  unfolding canHave stageListed among
+  unfolding canHave stageAt numbered stageNumber
   can-nothing = refl
 
 pub six : (n : ℕ) → (n ≡ 0 → ⊥) → leb n 6 ≡ among n (1 ∷ 2 ∷ 3 ∷ 4 ∷ 5 ∷ 6 ∷ [])
@@ -69,11 +109,14 @@ six (suc (suc (suc (suc (suc zero))))) h = refl
 six (suc (suc (suc (suc (suc (suc zero)))))) h = refl
 six (suc (suc (suc (suc (suc (suc (suc n))))))) h =
     lt-leb (suc (suc (suc (suc (suc (suc (suc n))))))) 6 (omega arith)
-    ∙ sym (past (suc (suc (suc (suc (suc (suc (suc n))))))) 6 (1 ∷ 2 ∷ 3 ∷ 4 ∷ 5 ∷ 6 ∷ []) (omega arith) (omega arith, (omega arith, (omega arith, (omega arith, (omega arith, (omega arith, tt)))))))
+    ∙ sym (rw (above 1 (omega arith), above 2 (omega arith), above 3 (omega arith), above 4 (omega arith), above 5 (omega arith), above 6 (omega arith)) refl)
+  where
+    above : (k : ℕ) → k ≤ 6 → eqb (suc (suc (suc (suc (suc (suc (suc n))))))) k ≡ false
+    above k l = ne-eqb _ k (λ e. omega arith)
 
 -- done and no room, the only ones left
 pub can-rest : (s n : ℕ) → s ≤ 6 → (s ≡ 0 → ⊥) → (s ≡ 1 → ⊥) → (s ≡ 2 → ⊥) → (s ≡ 4 → ⊥) → (s ≡ 6 → ⊥) → canHave s n ≡ among n (1 ∷ 2 ∷ 3 ∷ 4 ∷ 5 ∷ 6 ∷ [])
-unfolding canHave stageListed stageOf possible among
+unfolding canHave stageAt numbered stageNumber possible among
 can-rest zero n l a b c d e = absurd (a refl)
 can-rest (suc zero) n l a b c d e = absurd (b refl)
 can-rest (suc (suc zero)) n l a b c d e = absurd (c refl)
@@ -83,14 +126,10 @@ can-rest (suc (suc (suc (suc (suc zero))))) n l a b c d e = refl
 can-rest (suc (suc (suc (suc (suc (suc zero)))))) n l a b c d e = absurd (e refl)
 can-rest (suc (suc (suc (suc (suc (suc (suc s))))))) n l a b c d e = absurd (omega arith)
 
-pub not-listed : (s : ℕ) → 15 < s → stageListed s ≡ false
-unfolding stageListed
-not-listed s h = past s 15 (1 ∷ 2 ∷ 3 ∷ 4 ∷ 5 ∷ 6 ∷ 11 ∷ 12 ∷ 13 ∷ 14 ∷ 15 ∷ []) h (omega arith, (omega arith, (omega arith, (omega arith, (omega arith, (omega arith, (omega arith, (omega arith, (omega arith, (omega arith, (omega arith, tt)))))))))))
-
 -- ---- a remove's stages
 
 pub can-low : (s n : ℕ) → 6 < s → s < 11 → canHave s n ≡ false
-unfolding canHave stageListed among
+unfolding canHave stageAt numbered stageNumber
 can-low zero n h l = absurd (omega arith)
 can-low (suc zero) n h l = absurd (omega arith)
 can-low (suc (suc zero)) n h l = absurd (omega arith)
@@ -105,7 +144,7 @@ can-low (suc (suc (suc (suc (suc (suc (suc (suc (suc (suc zero)))))))))) n h l =
 can-low (suc (suc (suc (suc (suc (suc (suc (suc (suc (suc (suc s))))))))))) n h l = absurd (omega arith)
 
 pub can-remove : (s n : ℕ) → 11 ≤ s → leb s 15 ≡ canHave s n
-unfolding canHave stageListed stageOf possible among
+unfolding canHave stageAt numbered stageNumber possible among
 can-remove zero n h = absurd (omega arith)
 can-remove (suc zero) n h = absurd (omega arith)
 can-remove (suc (suc zero)) n h = absurd (omega arith)
@@ -123,9 +162,7 @@ can-remove (suc (suc (suc (suc (suc (suc (suc (suc (suc (suc (suc (suc (suc zero
 can-remove (suc (suc (suc (suc (suc (suc (suc (suc (suc (suc (suc (suc (suc (suc zero)))))))))))))) n h = refl
 can-remove (suc (suc (suc (suc (suc (suc (suc (suc (suc (suc (suc (suc (suc (suc (suc zero))))))))))))))) n h = refl
 can-remove (suc (suc (suc (suc (suc (suc (suc (suc (suc (suc (suc (suc (suc (suc (suc (suc s)))))))))))))))) n h =
-    lt-leb (suc (suc (suc (suc (suc (suc (suc (suc (suc (suc (suc (suc (suc (suc (suc (suc s)))))))))))))))) 15 (omega arith)
-    ∙ sym (ap (λ (b : Bool). b && possible (stageOf (suc (suc (suc (suc (suc (suc (suc (suc (suc (suc (suc (suc (suc (suc (suc (suc s)))))))))))))))) n))
-    (past (suc (suc (suc (suc (suc (suc (suc (suc (suc (suc (suc (suc (suc (suc (suc (suc s)))))))))))))))) 15 (1 ∷ 2 ∷ 3 ∷ 4 ∷ 5 ∷ 6 ∷ 11 ∷ 12 ∷ 13 ∷ 14 ∷ 15 ∷ []) (omega arith) (omega arith, (omega arith, (omega arith, (omega arith, (omega arith, (omega arith, (omega arith, (omega arith, (omega arith, (omega arith, (omega arith, tt)))))))))))))
+    lt-leb (suc (suc (suc (suc (suc (suc (suc (suc (suc (suc (suc (suc (suc (suc (suc (suc s)))))))))))))))) 15 (omega arith) ∙ sym (ap allowed (not-listed (suc (suc (suc (suc (suc (suc (suc (suc (suc (suc (suc (suc (suc (suc (suc (suc s)))))))))))))))) n (omega arith)))
 
 -- ---- a job's numbers
 

@@ -1,6 +1,7 @@
 -- What the structs of a job mean, and their numbers. Document 01, "Zone, requests and jobs".
-use mathlib.Core.Bool.{Bool, cond, _&&_}
-use mathlib.Core.List.{[], _∷_}
+use mathlib.Core.Bool.{Bool, false, cond, _&&_}
+use mathlib.Core.List.{List, [], _∷_}
+use mathlib.Core.Option.{Option, none, some}
 use Prim.Native.Nat.{ℕ}
 use lib.Dec.{eqb, leb}
 use lib.ListN.{replicate}
@@ -10,10 +11,11 @@ use Rattle.zone.specs.declared.entry.Address.{Address}
 use Rattle.update.specs.Meaning.{listed, policyOf, updateOf}
 use Rattle.job.specs.declared.job.Job.{Job}
 use Rattle.job.specs.Jobs as rules
-use Rattle.job.specs.Jobs.{add, remove, Arguments, done, conflict, noRoom, gaveUp, notOurs, gone, kept, Stage, beforeA, beforeB, beforeFirst, beforeSecond, ended, among, possible}
+use Rattle.job.specs.Jobs.{add, remove, Arguments, done, conflict, noRoom, gaveUp, notOurs, gone, kept, Stage, beforeA, beforeB, beforeFirst, beforeSecond, ended, possible, sent}
 
 -- ---- the numbers of stages
 
+-- The number of each stage. No other number is listed.
 unfoldable pub stageNumber : Stage → ℕ
 stageNumber (beforeA n) = 1
 stageNumber (beforeB n) = 2
@@ -27,41 +29,51 @@ stageNumber (ended notOurs) = 13
 stageNumber (ended gone) = 14
 stageNumber (ended kept) = 15
 
--- The count at a stage: an add's is the stage's; a remove has none, and keeps whatever number stood there.
-unfoldable pub stageCount : Stage → ℕ → ℕ
-stageCount (beforeA n) m = n
-stageCount (beforeB n) m = n
-stageCount (ended (done n)) m = n
-stageCount (ended (conflict n)) m = n
-stageCount (ended (noRoom n)) m = n
-stageCount (ended (gaveUp n)) m = n
-stageCount beforeFirst m = m
-stageCount beforeSecond m = m
-stageCount (ended notOurs) m = m
-stageCount (ended gone) m = m
-stageCount (ended kept) m = m
+-- Every stage, an add's with this count.
+abbrev pub stages : ℕ → List Stage
+stages n =
+    beforeA n ∷ beforeB n ∷ ended (done n) ∷ ended (conflict n) ∷ ended (noRoom n) ∷ ended (gaveUp n)
+    ∷ beforeFirst ∷ beforeSecond ∷ ended notOurs ∷ ended gone ∷ ended kept ∷ []
 
--- The stage that a number and a count stand for; which numbers are listed, stageListed says.
-unfoldable pub stageOf : ℕ → ℕ → Stage
-stageOf stage count =
-    cond (eqb stage 1) (beforeA count)
-    (cond (eqb stage 2) (beforeB count)
-    (cond (eqb stage 3) (ended (done count))
-    (cond (eqb stage 4) (ended (conflict count))
-    (cond (eqb stage 5) (ended (noRoom count))
-    (cond (eqb stage 6) (ended (gaveUp count))
-    (cond (eqb stage 11) beforeFirst
-    (cond (eqb stage 12) beforeSecond
-    (cond (eqb stage 13) (ended notOurs)
-    (cond (eqb stage 14) (ended gone)
-    (ended kept))))))))))
+-- The one of these stages that has a number, or none.
+unfoldable pub numbered : ℕ → List Stage → Option Stage
+numbered number [] = none
+numbered number (s ∷ l) = cond (eqb (stageNumber s) number) (some s) (numbered number l)
 
-unfoldable pub stageListed : ℕ → Bool
-stageListed stage = among stage (1 ∷ 2 ∷ 3 ∷ 4 ∷ 5 ∷ 6 ∷ 11 ∷ 12 ∷ 13 ∷ 14 ∷ 15 ∷ [])
+-- The stage that a number and a count stand for; none where the number is not listed.
+unfoldable pub stageAt : ℕ → ℕ → Option Stage
+stageAt number count = numbered number (stages count)
 
 -- The number is a stage's, and the stage can have the count.
+abbrev pub allowed : Option Stage → Bool
+allowed none = false
+allowed (some s) = possible s
+
 unfoldable pub canHave : ℕ → ℕ → Bool
-canHave stage count = stageListed stage && possible (stageOf stage count)
+canHave stage count = allowed (stageAt stage count)
+
+-- The stage of a job. A job whose number is not listed is refused, and whatever stands for its stage here is not used.
+abbrev pub orKept : Option Stage → Stage
+orKept none = ended kept
+orKept (some s) = s
+
+unfoldable pub stageOf : ℕ → ℕ → Stage
+stageOf stage count = orKept (stageAt stage count)
+
+-- The count at a stage: an add's is the stage's; a remove has none, and keeps whatever number stood there.
+abbrev pub counted : Stage → Option ℕ
+counted (beforeA n) = some n
+counted (beforeB n) = some n
+counted (ended e) = sent e
+counted beforeFirst = none
+counted beforeSecond = none
+
+abbrev pub orStood : Option ℕ → ℕ → ℕ
+orStood none m = m
+orStood (some n) m = n
+
+unfoldable pub stageCount : Stage → ℕ → ℕ
+stageCount s m = orStood (counted s) m
 
 -- The stage's number alone tells an add from a remove.
 unfoldable pub isAdd : ℕ → Bool

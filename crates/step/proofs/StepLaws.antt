@@ -2,6 +2,7 @@
 use mathlib.Core.Path.{_≡_, refl, sym, _∙_, ap, subst}
 use mathlib.Core.Bool.{Bool, true, false, cond, true≢false}
 use mathlib.Core.List.{[], _∷_}
+use mathlib.Core.Option.{some}
 use Prim.Native.Nat.{ℕ, zero, suc, _+_, _<_}
 use native.Mathlib.Numerals.{add-one}
 use native.Mathlib.Omega.{arith}
@@ -18,11 +19,12 @@ use Rattle.request.specs.Promise.{refusalOf, numberOf, Promised}
 use Rattle.update.proofs.NumberLaws.{listed-zero}
 use Rattle.request.proofs.PromiseLaws.{refusal-listed, says-17, not-17}
 use Rattle.job.specs.declared.job.Job.{Job}
-use Rattle.job.specs.Jobs.{Stage, ended, End, done, conflict, noRoom, gaveUp, notOurs, gone, kept, State, goesOn, after, afterFirst, afterSecond, step}
-use Rattle.job.specs.Meaning.{stageNumber, stageCount, stageOf, canHave, isAdd, argumentsOf, atStage, numbersListed}
+use Rattle.job.specs.Jobs.{Stage, beforeA, beforeB, beforeFirst, beforeSecond, ended, End, State, goesOn, after, afterFirst, afterSecond, step}
+use Rattle.job.specs.Meaning.{stageNumber, stages, numbered, stageAt, stageCount, stageOf, canHave, isAdd, argumentsOf, atStage, numbersListed}
 use Rattle.job.specs.Inner.{led}
 use Rattle.job.proofs.AnswerLaws.{answer-number}
-use Rattle.job.proofs.StageLaws.{each-among, can-a, can-b, can-nothing, can-low, can-remove}
+use Rattle.job.proofs.StageLaws.{each-among, each-numbered, Listed, can-stage, can-a, can-b}
+use Rattle.job.proofs.JobLaws.{stage-of}
 use Rattle.step.specs.declared.Stepped.{Stepped}
 use Rattle.step.specs.Promise.{stepRefusal, stepOf, StepPromise}
 use Rattle.step.specs.Inner.{Carried, Idle}
@@ -62,17 +64,17 @@ module _ (z : Zone) (j : Job) where
   at-stage s e = ap (λ (t : ℕ). step (argumentsOf j) (zoneOf z) (stageOf t (j .count))) e
 
   pub step-at-a : j .stage ≡ 1 → stepOf z j ≡ goesOn (requestA (updateOf (j .name) (j .dhcid) (j .family) (j .address)) (zoneOf z)) (after (j .count + 1))
-  step-at-a e = at-stage 1 e ∙ (unfold argumentsOf stageOf step in rw (add-one (j .count)) refl)
+  step-at-a e = at-stage 1 e ∙ (unfold argumentsOf stageOf stageAt numbered stageNumber step in rw (add-one (j .count)) refl)
 
   pub step-at-b : j .stage ≡ 2
       → stepOf z j ≡ goesOn (requestB (policyOf (j .policy)) (updateOf (j .name) (j .dhcid) (j .family) (j .address)) (zoneOf z)) (after (j .count + 1))
-  step-at-b e = at-stage 2 e ∙ (unfold argumentsOf stageOf step in rw (add-one (j .count)) refl)
+  step-at-b e = at-stage 2 e ∙ (unfold argumentsOf stageOf stageAt numbered stageNumber step in rw (add-one (j .count)) refl)
 
   pub step-at-first : j .stage ≡ 11 → stepOf z j ≡ goesOn (removeAddress (updateOf (j .name) (j .dhcid) (j .family) (j .address)) (zoneOf z)) afterFirst
-  step-at-first e = at-stage 11 e ∙ (unfold argumentsOf stageOf step in refl)
+  step-at-first e = at-stage 11 e ∙ (unfold argumentsOf stageOf stageAt numbered stageNumber step in refl)
 
   pub step-at-second : j .stage ≡ 12 → stepOf z j ≡ goesOn (removeName (updateOf (j .name) (j .dhcid) (j .family) (j .address)) (zoneOf z)) afterSecond
-  step-at-second e = at-stage 12 e ∙ (unfold argumentsOf stageOf step in refl)
+  step-at-second e = at-stage 12 e ∙ (unfold argumentsOf stageOf stageAt numbered stageNumber step in refl)
 
   -- ---- one refusal for the request and for the step
 
@@ -143,26 +145,30 @@ record Over (s n : ℕ) : Type 0 where
   number : stageNumber (ended end) ≡ s
   count : stageCount (ended end) n ≡ n
 
+-- a stage keeps the count with which it was found
+counted-same : (number count : ℕ) (s : Stage) → stageAt number count ≡ some s → stageCount s count ≡ count
+unfolding stageAt stageCount
+counted-same number count s e =
+    each-numbered (λ t. stageCount t count ≡ count) number (stages count) s
+    (refl, (refl, (refl, (refl, (refl, (refl, (refl, (refl, (refl, (refl, (refl, tt))))))))))) e
+
 over : (s n : ℕ) → canHave s n ≡ true → Idle s → Over s n
-unfolding stageOf stageNumber stageCount
-over zero n c i = absurd (true≢false (sym c ∙ can-nothing n))
-over (suc zero) n c i = absurd (i .notA refl)
-over (suc (suc zero)) n c i = absurd (i .notB refl)
-over (suc (suc (suc zero))) n c i = record { end = done n; is = refl; number = refl; count = refl }
-over (suc (suc (suc (suc zero)))) n c i = record { end = conflict n; is = refl; number = refl; count = refl }
-over (suc (suc (suc (suc (suc zero))))) n c i = record { end = noRoom n; is = refl; number = refl; count = refl }
-over (suc (suc (suc (suc (suc (suc zero)))))) n c i = record { end = gaveUp n; is = refl; number = refl; count = refl }
-over (suc (suc (suc (suc (suc (suc (suc zero))))))) n c i = absurd (true≢false (sym c ∙ can-low 7 n (omega arith) (omega arith)))
-over (suc (suc (suc (suc (suc (suc (suc (suc zero)))))))) n c i = absurd (true≢false (sym c ∙ can-low 8 n (omega arith) (omega arith)))
-over (suc (suc (suc (suc (suc (suc (suc (suc (suc zero))))))))) n c i = absurd (true≢false (sym c ∙ can-low 9 n (omega arith) (omega arith)))
-over (suc (suc (suc (suc (suc (suc (suc (suc (suc (suc zero)))))))))) n c i = absurd (true≢false (sym c ∙ can-low 10 n (omega arith) (omega arith)))
-over (suc (suc (suc (suc (suc (suc (suc (suc (suc (suc (suc zero))))))))))) n c i = absurd (i .notFirst refl)
-over (suc (suc (suc (suc (suc (suc (suc (suc (suc (suc (suc (suc zero)))))))))))) n c i = absurd (i .notSecond refl)
-over (suc (suc (suc (suc (suc (suc (suc (suc (suc (suc (suc (suc (suc zero))))))))))))) n c i = record { end = notOurs; is = refl; number = refl; count = refl }
-over (suc (suc (suc (suc (suc (suc (suc (suc (suc (suc (suc (suc (suc (suc zero)))))))))))))) n c i = record { end = gone; is = refl; number = refl; count = refl }
-over (suc (suc (suc (suc (suc (suc (suc (suc (suc (suc (suc (suc (suc (suc (suc zero))))))))))))))) n c i = record { end = kept; is = refl; number = refl; count = refl }
-over (suc (suc (suc (suc (suc (suc (suc (suc (suc (suc (suc (suc (suc (suc (suc (suc s)))))))))))))))) n c i =
-    absurd (true≢false (sym c ∙ sym (can-remove (suc (suc (suc (suc (suc (suc (suc (suc (suc (suc (suc (suc (suc (suc (suc (suc s)))))))))))))))) n (omega arith)) ∙ lt-leb (suc (suc (suc (suc (suc (suc (suc (suc (suc (suc (suc (suc (suc (suc (suc (suc s)))))))))))))))) 15 (omega arith)))
+over s n c i = go (l .stage) refl (l .numberIs)
+  where
+    l : Listed s n
+    l = can-stage s n c
+
+    go : (t : Stage) → l .stage ≡ t → stageNumber (l .stage) ≡ s → Over s n
+    go (beforeA m) e k = absurd (i .notA (sym k ∙ ap stageNumber e ∙ (unfold stageNumber in refl)))
+    go (beforeB m) e k = absurd (i .notB (sym k ∙ ap stageNumber e ∙ (unfold stageNumber in refl)))
+    go beforeFirst e k = absurd (i .notFirst (sym k ∙ ap stageNumber e ∙ (unfold stageNumber in refl)))
+    go beforeSecond e k = absurd (i .notSecond (sym k ∙ ap stageNumber e ∙ (unfold stageNumber in refl)))
+    go (ended d) e k = record {
+      end = d;
+      is = stage-of s n l ∙ e;
+      number = ap stageNumber (sym e) ∙ k;
+      count = ap (λ (t : Stage). stageCount t n) (sym e) ∙ counted-same s n (l .stage) (l .found);
+    }
 
 pub step-idle : (z : Zone) (j : Job) (refusal : ℕ) → numbersListed j ≡ true → Idle (j .stage) → refusal ≡ refusalOf z (nameOf (j .name)) (j .family) 0
     → StepPromise z j (record { refusal = refusal; zone = z; job = j })

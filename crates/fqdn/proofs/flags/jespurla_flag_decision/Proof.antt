@@ -8,8 +8,8 @@ use Rattle.fqdn.proofs.flags.jespurla_flag_decision.Tie as tie
 cast-place : tie.Need-cast-place
 cast-place c = search needs
 
-one-if-requires : tie.Need-one-if-requires
-one-if-requires c κs = search needs
+bit-requires : tie.Need-bit-requires
+bit-requires c κs = search needs
 
 mul-place : tie.Need-mul-place
 mul-place c = search needs
@@ -17,8 +17,8 @@ mul-place c = search needs
 add-place : tie.Need-add-place
 add-place c = search needs
 
-one-if-requires-2 : tie.Need-one-if-requires-2
-one-if-requires-2 c κs = search needs
+bit-requires-2 : tie.Need-bit-requires-2
+bit-requires-2 c κs = search needs
 
 mul-place-2 : tie.Need-mul-place-2
 mul-place-2 c = search needs
@@ -30,23 +30,23 @@ array-read-answer : tie.Need-array-read-answer
 array-read-answer c = search needs
 
 returns : tie.Need-returns
-returns c = refused _ _ _ _ _ (c .before .before .one-if .ensures .is) (c .before .one-if2 .ensures .is) (c .if1 .taken)
+returns c = refused _ _ _ _ _ (c .before .before .bit .ensures .is) (c .before .bit2 .ensures .is) (c .if1 .taken)
 
 cast-result : tie.Need-cast-result
-cast-result c = omega (arith, small (c .before .before .before .args .flags % 8 + 8 * c .before .before .one-if .result + 16 * c .before .one-if2 .result))
+cast-result c = omega (arith, small (c .before .before .before .args .flags % 8 + 8 * c .before .before .bit .result + 16 * c .before .bit2 .result))
 
 returns-2 : tie.Need-returns-2
-returns-2 c = answered _ _ _ _ _ (c .before .before .one-if .ensures .is) (c .before .one-if2 .ensures .is) (c .if1 .left)
+returns-2 c = answered _ _ _ _ _ (c .before .before .bit .ensures .is) (c .before .bit2 .ensures .is) (c .if1 .left)
 
 pub jespurla-flag-decision-spec : {M : Type 1} → statement M
 jespurla-flag-decision-spec =
     tie.close
     (tie.spec
     cast-place
-    one-if-requires
+    bit-requires
     mul-place
     add-place
-    one-if-requires-2
+    bit-requires-2
     mul-place-2
     add-place-2
     array-read-answer

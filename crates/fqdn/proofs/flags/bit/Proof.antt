@@ -3,8 +3,8 @@ use mathlib.Core.Path.{_≡_, refl}
 use Prim.Native.Nat.{ℕ, zero, suc}
 use native.Mathlib.Omega.{arith}
 use Rattle.fqdn.specs.Flags.{honoured}
-use Rattle.fqdn.proofs.flags.one_if.Statement.{statement}
-use Rattle.fqdn.proofs.flags.one_if.Tie as tie
+use Rattle.fqdn.proofs.flags.bit.Statement.{statement}
+use Rattle.fqdn.proofs.flags.bit.Tie as tie
 
 is-no : (x : ℕ) → x ≡ 0 → 0 ≡ honoured x
 unfolding honoured
@@ -22,5 +22,5 @@ returns c = record { is = is-no (c .before .args .number) (c .if1 .taken); small
 returns-2 : tie.Need-returns-2
 returns-2 c = record { is = is-yes (c .before .args .number) (c .if1 .left); small = search needs }
 
-pub one-if-spec : {M : Type 1} → statement M
-one-if-spec = tie.close (tie.spec returns returns-2)
+pub bit-spec : {M : Type 1} → statement M
+bit-spec = tie.close (tie.spec returns returns-2)
