@@ -57,7 +57,7 @@ pub record Answered (value suffix : List ℕ) (s n : ℕ) (before : List ℕ) (r
   pub result : r ≡ resultOf (answerOf value suffix s n (length before)) (octetsOf (answerOf value suffix s n (length before)) value suffix)
   pub buffer : after ≡ laid (octetsOf (answerOf value suffix s n (length before)) value suffix) before
 
--- ---- for the contracts of inner functions; no public promise cites these
+-- ---- for the contracts of inner functions; no promise of an exported call cites these
 
 -- A value and what follows its name come to at most 256 octets, and the buffer has room for as many.
 pub record Room (value tail : List ℕ) (room : ℕ) : Type 0 where

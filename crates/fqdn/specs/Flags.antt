@@ -28,7 +28,7 @@ flagTable =
 unfoldable pub flagAnswer : ℕ → ℕ → ℕ → ℕ
 flagAnswer flags s n = getD flagTable (flags % 8 + 8 * honoured s + 16 * honoured n) 0
 
--- ---- for the contracts of inner functions; no public promise cites these
+-- ---- for the contracts of inner functions; no promise of an exported call cites these
 
 -- The number that says whether a bit may be honoured, as a place in the table uses it: 0 or 1.
 pub record Honoured (number r : ℕ) : Type 0 where

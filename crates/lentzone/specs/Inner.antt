@@ -1,4 +1,4 @@
--- What inner functions promise. No public promise cites these.
+-- What inner functions promise. No promise of an exported call cites these.
 use mathlib.Core.Path.{_≡_}
 use mathlib.Core.Bool.{false, cond, _&&_}
 use mathlib.Core.List.{List, _++_, map}

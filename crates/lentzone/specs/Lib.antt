@@ -1,5 +1,5 @@
 -- The struct that lent octets hold, and the octets of a struct.
 pub mod Decode
 pub mod Encode
--- For the contracts of inner functions; no public promise cites these.
+-- For the contracts of inner functions; no promise of an exported call cites these.
 pub mod Inner

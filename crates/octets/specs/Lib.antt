@@ -3,5 +3,5 @@ pub mod Compare
 pub mod Count
 pub mod Number
 pub mod Write
--- For the contracts of inner functions; no public promise cites these.
+-- For the contracts of inner functions; no promise of an exported call cites these.
 pub mod Word

@@ -26,7 +26,7 @@ pub record Laid (buffer : List ℕ) (at : ℕ) (ys after : List ℕ) (end : ℕ)
   pub list : after ≡ laidAt buffer at ys
   pub next : end ≡ nextAt buffer at ys
 
--- ---- for the contracts of inner functions; no public promise cites these
+-- ---- for the contracts of inner functions; no promise of an exported call cites these
 
 -- ys fitted, and was written.
 pub record Wrote (buffer : List ℕ) (at : ℕ) (ys after : List ℕ) (end : ℕ) : Type 0 where

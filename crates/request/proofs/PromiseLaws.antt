@@ -11,21 +11,24 @@ use borrow.Author.Tests.{eq-eqb, ne-eqb, ltb-true, ltb-false}
 use borrow.Table.Steps.{cases}
 use Rattle.octets.specs.Count.{Octets, distinct}
 use Rattle.dname.specs.declared.name.Name.{Name}
+use Rattle.zone.specs.declared.entry.Address.{Address}
+use Rattle.zone.specs.declared.entry.Dhcid.{Dhcid}
 use Rattle.zone.specs.declared.entry.Entry.{Entry}
 use Rattle.zone.specs.declared.entry.Records.{Records}
 use Rattle.zone.specs.declared.Zone.{Zone}
 use Rattle.zone.specs.declared.survey.Visit.{Visit}
 use Rattle.request.specs.declared.decide.Change.{Change}
 use Rattle.request.specs.declared.Effect.{Effect}
+use Rattle.request.specs.declared.Request.{Request}
 use Rattle.request.specs.declared.Answered.{Answered}
 use Rattle.update.specs.Rules as rules
-use Rattle.update.specs.Rules.{Outcome}
+use Rattle.update.specs.Rules.{Update, Outcome}
 use Rattle.dname.specs.Name.{nameOf, isFull}
 use Rattle.zone.specs.Meaning.{keys, allInOrder, formed}
-use Rattle.update.specs.Meaning.{zoneOf, listed}
-use Rattle.request.specs.Promise.{numberOf, refusalOf, Promised}
+use Rattle.update.specs.Meaning.{zoneOf, updateOf, listed}
+use Rattle.request.specs.Promise.{numberOf, refusalOf, Promised, RequestPromise}
 use Rattle.zone.specs.Survey.{Visited, placeOf, recordsOf}
-use Rattle.request.specs.Inner.{written, settled, effectAt, Decided, Adds, Decides, Comes}
+use Rattle.request.specs.Inner.{requestOf, requestWith, written, settled, effectAt, Settles, Decided, Adds, Decides, Comes}
 use Rattle.request.proofs.PlaceLaws.{formed-places}
 
 -- ---- the refusals, in their order
@@ -168,6 +171,16 @@ module _ (z : Zone) (n : Octets) (family policy : ℕ) (request : rules.Zone →
         done = λ k. ap (λ (a : Answered). zoneOf (a .zone)) f ∙ p .done k ∙ ap (λ (o : Outcome). o .zone) (sym e);
         formedAgain = λ k. ap (λ (a : Answered). formed (a .zone)) f ∙ p .formedAgain k;
       }
+
+-- ---- a request by value: what it is, what it comes to, and that one place is written
+
+pub request-kept : (kind : ℕ) (rule : Update → rules.Zone → Outcome) (z : Zone) (n : Name) (d : Dhcid) (family : ℕ) (a : Address) (policy : ℕ)
+    (q : Request) (w : Effect) (r : Answered)
+    → requestOf kind policy (updateOf n d family a) (zoneOf z) ≡ rule (updateOf n d family a) (zoneOf z)
+    → q ≡ requestWith kind n d family a policy → Settles z q w → r ≡ settled z w → RequestPromise rule z n d family a policy r
+request-kept kind rule z n d family a policy q w r e i p f =
+    promise-same z (nameOf n) family policy (requestOf kind policy (updateOf n d family a)) (rule (updateOf n d family a)) (settled z w) r (sym e) f
+    (subst (λ (x : Request). Settles z x w) i p)
 
 -- ---- decisions on what was visited
 

@@ -1,4 +1,4 @@
--- What inner functions decide, on a survey of the zone. No contract of another crate cites these.
+-- What inner functions decide, on a survey of the zone. No promise of an exported call cites these.
 use mathlib.Core.Path.{_≡_}
 use mathlib.Core.List.{List}
 use mathlib.Core.Bool.{Bool, true, false, cond, _&&_}
@@ -42,6 +42,9 @@ nameIn o len = record { octets = o; len = len }
 unfoldable pub requestOf : ℕ → ℕ → Update → rules.Zone → Outcome
 requestOf kind policy u z =
     cond (eqb kind 1) (requestA u z) (cond (eqb kind 2) (requestB (policyOf policy) u z) (cond (eqb kind 3) (removeAddress u z) (removeName u z)))
+
+abbrev pub requestWith : ℕ → Name → Dhcid → ℕ → Address → ℕ → Request
+requestWith kind n d family a policy = record { kind = kind; family = family; policy = policy; name = n; dhcid = d; address = a }
 
 abbrev pub asks : Request → rules.Zone → Outcome
 asks q = requestOf (q .kind) (q .policy) (updateOf (q .name) (q .dhcid) (q .family) (q .address))

@@ -29,7 +29,7 @@ ghost use Rattle.dname.specs.Name.{nameOf};
 ghost use Rattle.zone.specs.Survey.{recordsOf};
 ghost use Rattle.update.specs.Meaning.{policyOf, updateOf};
 ghost use Rattle.request.specs.Promise.{refusalOf, RequestPromise};
-ghost use Rattle.request.specs.Inner.{requestOf, asks, written as writtenAt, settled, effectAt, Decides, Comes, Refuses, Settles};
+ghost use Rattle.request.specs.Inner.{requestOf, requestWith, asks, written as writtenAt, settled, effectAt, Decides, Comes, Refuses, Settles};
 
 // What is sent. kind: one of crate::kind; any other number counts as the second remove request.
 // policy: of request B; 0 where there is none.
@@ -58,6 +58,27 @@ pub struct Answered {
     pub refusal: u32,
     pub answer: u32,
     pub zone: Zone,
+}
+
+// A request of a kind.
+fn request_of(
+    kind: u8,
+    name: Name,
+    dhcid: Dhcid,
+    family: u8,
+    address: Address,
+    policy: u8,
+) -> Request
+    ensures { λ r. ⌜ r ≡ requestWith kind name dhcid family address policy ⌝ }
+{
+    Request {
+        kind: kind,
+        family: family,
+        policy: policy,
+        name: name,
+        dhcid: dhcid,
+        address: address,
+    }
 }
 
 // The refusal, 0 where there is none. The name is the first octets.
@@ -223,14 +244,7 @@ pub extern "C" fn jespurla_request_a(
 ) -> Answered
     ensures { λ r. ⌜ RequestPromise requestA zone name dhcid family address 0 r ⌝ }
 {
-    let q = Request {
-        kind: REQUEST_A,
-        family: family,
-        policy: 0,
-        name: name,
-        dhcid: dhcid,
-        address: address,
-    };
+    let q = request_of(REQUEST_A, name, dhcid, family, address, 0);
     let w = effect_of(zone, q);
     settle(zone, w)
 }
@@ -247,14 +261,7 @@ pub extern "C" fn jespurla_request_b(
 ) -> Answered
     ensures { λ r. ⌜ RequestPromise (requestB (policyOf policy)) zone name dhcid family address policy r ⌝ }
 {
-    let q = Request {
-        kind: REQUEST_B,
-        family: family,
-        policy: policy,
-        name: name,
-        dhcid: dhcid,
-        address: address,
-    };
+    let q = request_of(REQUEST_B, name, dhcid, family, address, policy);
     let w = effect_of(zone, q);
     settle(zone, w)
 }
@@ -270,14 +277,7 @@ pub extern "C" fn jespurla_request_remove_address(
 ) -> Answered
     ensures { λ r. ⌜ RequestPromise removeAddress zone name dhcid family address 0 r ⌝ }
 {
-    let q = Request {
-        kind: REMOVE_ADDRESS,
-        family: family,
-        policy: 0,
-        name: name,
-        dhcid: dhcid,
-        address: address,
-    };
+    let q = request_of(REMOVE_ADDRESS, name, dhcid, family, address, 0);
     let w = effect_of(zone, q);
     settle(zone, w)
 }
@@ -293,14 +293,7 @@ pub extern "C" fn jespurla_request_remove_name(
 ) -> Answered
     ensures { λ r. ⌜ RequestPromise removeName zone name dhcid family address 0 r ⌝ }
 {
-    let q = Request {
-        kind: REMOVE_NAME,
-        family: family,
-        policy: 0,
-        name: name,
-        dhcid: dhcid,
-        address: address,
-    };
+    let q = request_of(REMOVE_NAME, name, dhcid, family, address, 0);
     let w = effect_of(zone, q);
     settle(zone, w)
 }

@@ -11,7 +11,7 @@ use Rattle.octets.specs.Count.{Octets}
 use Rattle.update.specs.Rules.{Host, Zone, Form, empty}
 use Rattle.job.specs.Jobs.{Kind, add, remove, Arguments, End, done, conflict, noRoom, gaveUp, notOurs, gone, kept, Stage, beforeA, beforeB, beforeFirst, beforeSecond, ended, Job, fresh, step, Sends, sent}
 
--- The public calls: the zone and the job that a program holds, and what they mean; what a job step returns; and what is known of a call that
+-- The exported calls: the zone and the job that a program holds, and what they mean; what a job step returns; and what is known of a call that
 -- has been made. specs/Running.antt gives them for the calls that run, specs/OnOctets.antt for those on a zone that is kept as octets.
 pub record Calls : Type 1 where
   pub Z : Type 0

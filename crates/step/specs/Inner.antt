@@ -1,4 +1,4 @@
--- What inner functions promise. No public promise cites these.
+-- What inner functions promise. No promise of an exported call cites these.
 use mathlib.Core.Path.{_≡_}
 use mathlib.Core.Bool.{cond}
 use Prim.Native.Nat.{ℕ}

@@ -1,4 +1,4 @@
--- What the walk over the places finds. No public promise cites these.
+-- What the walk over the places finds. No promise of an exported call cites these.
 use mathlib.Core.Path.{_≡_}
 use mathlib.Core.Bool.{Bool, false, cond, not, _&&_, _||_}
 use mathlib.Core.List.{List, [], _∷_}

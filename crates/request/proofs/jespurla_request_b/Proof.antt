@@ -1,12 +1,14 @@
 use mathlib.Core.Path.{refl}
 use Rattle.update.specs.Rules.{requestB}
-use Rattle.dname.specs.Name.{nameOf}
-use Rattle.update.specs.Meaning.{policyOf, updateOf}
+use Rattle.update.specs.Meaning.{policyOf}
 use Rattle.request.specs.Inner.{requestOf}
-use Rattle.request.proofs.PromiseLaws.{promise-same}
+use Rattle.request.proofs.PromiseLaws.{request-kept}
 use borrow.Author.Needs.{needs}
 use Rattle.request.proofs.jespurla_request_b.Statement.{statement}
 use Rattle.request.proofs.jespurla_request_b.Tie as tie
+
+request-of-requires : tie.Need-request-of-requires
+request-of-requires c κs = search needs
 
 effect-of-requires : tie.Need-effect-of-requires
 effect-of-requires c κs = search needs
@@ -17,8 +19,8 @@ settle-requires c κs = search needs
 returns : tie.Need-returns
 unfolding requestOf
 returns c =
-    let a = c .before .before .args in
-    promise-same (a .zone) (nameOf (a .name)) (a .family) (a .policy) (requestOf 2 (a .policy) (updateOf (a .name) (a .dhcid) (a .family) (a .address))) (requestB (policyOf (a .policy)) (updateOf (a .name) (a .dhcid) (a .family) (a .address))) _ _ refl (c .settle .ensures) (c .before .effect-of .ensures)
+    let a = c .before .before .before .args in
+    request-kept 2 (requestB (policyOf (a .policy))) (a .zone) (a .name) (a .dhcid) (a .family) (a .address) (a .policy) _ _ _ refl (c .before .before .request-of .ensures) (c .before .effect-of .ensures) (c .settle .ensures)
 
 pub jespurla-request-b-spec : {M : Type 1} → statement M
-jespurla-request-b-spec = tie.close (tie.spec effect-of-requires settle-requires returns)
+jespurla-request-b-spec = tie.close (tie.spec request-of-requires effect-of-requires settle-requires returns)

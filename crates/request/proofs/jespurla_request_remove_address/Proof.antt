@@ -1,12 +1,13 @@
 use mathlib.Core.Path.{refl}
 use Rattle.update.specs.Rules.{removeAddress}
-use Rattle.dname.specs.Name.{nameOf}
-use Rattle.update.specs.Meaning.{updateOf}
 use Rattle.request.specs.Inner.{requestOf}
-use Rattle.request.proofs.PromiseLaws.{promise-same}
+use Rattle.request.proofs.PromiseLaws.{request-kept}
 use borrow.Author.Needs.{needs}
 use Rattle.request.proofs.jespurla_request_remove_address.Statement.{statement}
 use Rattle.request.proofs.jespurla_request_remove_address.Tie as tie
+
+request-of-requires : tie.Need-request-of-requires
+request-of-requires c κs = search needs
 
 effect-of-requires : tie.Need-effect-of-requires
 effect-of-requires c κs = search needs
@@ -17,9 +18,8 @@ settle-requires c κs = search needs
 returns : tie.Need-returns
 unfolding requestOf
 returns c =
-    let a = c .before .before .args in
-    promise-same (a .zone) (nameOf (a .name)) (a .family) 0 (requestOf 3 0 (updateOf (a .name) (a .dhcid) (a .family) (a .address))) (removeAddress (updateOf (a .name) (a .dhcid) (a .family) (a .address))) _ _ refl (c .settle .ensures) (c .before .effect-of .ensures)
+    let a = c .before .before .before .args in
+    request-kept 3 removeAddress (a .zone) (a .name) (a .dhcid) (a .family) (a .address) 0 _ _ _ refl (c .before .before .request-of .ensures) (c .before .effect-of .ensures) (c .settle .ensures)
 
 pub jespurla-request-remove-address-spec : {M : Type 1} → statement M
-jespurla-request-remove-address-spec =
-    tie.close (tie.spec effect-of-requires settle-requires returns)
+jespurla-request-remove-address-spec = tie.close (tie.spec request-of-requires effect-of-requires settle-requires returns)
