@@ -3,7 +3,8 @@ use mathlib.Core.Path.{_≡_}
 use mathlib.Core.Bool.{true, false}
 use mathlib.Core.List.{List, foldl}
 use Prim.Native.Nat.{ℕ, _≤_, _<_}
-use lib.Dec.{eqb}
+use lib.Dec.{leb, eqb}
+use Rattle.octets.proofs.BoolLaws.{and-right}
 use lib.ListN.{length}
 use borrow.Author.Tests.{le-leb, lt-leb, eq-eqb, ne-eqb}
 use Rattle.clock.specs.Clock.{expiryAfter}
@@ -46,6 +47,10 @@ area-long area h = rw (lt-leb (length area) 1500 h)
 pub area-short : (area : List ℕ) → length area ≤ 1500 → isArea area ≡ isWhole 0 area
 unfolding isArea
 area-short area h = rw (le-leb (length area) 1500 h)
+
+pub area-whole : (area : List ℕ) → isArea area ≡ true → isWhole 0 area ≡ true
+unfolding isArea
+area-whole area h = and-right (leb (length area) 1500) (isWhole 0 area) h
 
 -- the stages of the call
 module _ (list : ServerList) (clock : Moment) (area : List ℕ) where
