@@ -11,6 +11,7 @@ use Rattle.serverlist.specs.declared.Address6.{Address6}
 
 -- An option is Type, Length in units of 8 octets, and its value. The walks below go over an area octet by octet: the number is how many octets
 -- of the option at hand are still to come, 0 where an option starts. Of an option of Length n + 1 there are 6 + 8 n octets behind the first two.
+-- Grammar.antt says the same without a count.
 
 -- Refusal 16: no option has Length 0 or runs past the end.
 unfoldable pub isWhole : ℕ → List ℕ → Bool
