@@ -10,7 +10,7 @@ use lib.ListN.{length, take, drop, getD, length-drop, drop-of-length-le}
 use native.Mathlib.Nat.{div-mul-le-self}
 use lib.Seq.{drop-drop, getD-drop, getD-take, length-take-le}
 use Rattle.octets.proofs.BoolLaws.{and-left, and-right}
-use Rattle.rdnss.specs.Area.{isWhole, options, typeOf, lengthOf, acts}
+use Rattle.rdnss.specs.Area.{isWhole, options, typeOf, lengthOf, isActing}
 use Rattle.rdnss.specs.Places.{OptionFits}
 
 -- the octets still to come, skipped at once
@@ -88,20 +88,20 @@ options-end = refl
 
 -- which options act
 module _ (v : List ℕ) where
-  pub not-type : (typeOf v ≡ 25 → ⊥) → acts v ≡ false
-  unfolding acts
+  pub not-type : (typeOf v ≡ 25 → ⊥) → isActing v ≡ false
+  unfolding isActing
   not-type h = rw (ne-eqb (typeOf v) 25 h)
 
-  pub too-short : lengthOf v < 3 → acts v ≡ false
-  unfolding acts
+  pub too-short : lengthOf v < 3 → isActing v ≡ false
+  unfolding isActing
   too-short h = rw (lt-leb 3 (lengthOf v) h, and-false)
 
-  pub odd-acts : typeOf v ≡ 25 → 3 ≤ lengthOf v → acts v ≡ eqb (lengthOf v % 2) 1
-  unfolding acts
+  pub odd-acts : typeOf v ≡ 25 → 3 ≤ lengthOf v → isActing v ≡ eqb (lengthOf v % 2) 1
+  unfolding isActing
   odd-acts t h = rw (eq-eqb (typeOf v) 25 t, le-leb 3 (lengthOf v) h)
 
-  pub acting-length : acts v ≡ true → 3 ≤ lengthOf v
-  unfolding acts
+  pub acting-length : isActing v ≡ true → 3 ≤ lengthOf v
+  unfolding isActing
   acting-length h = leb-true 3 (lengthOf v) (and-right (eqb (typeOf v) 25) (leb 3 (lengthOf v)) (and-left (eqb (typeOf v) 25 && leb 3 (lengthOf v)) (eqb (lengthOf v % 2) 1) h))
 
 -- the addresses that count are there

@@ -20,7 +20,7 @@ use Rattle.serverlist.proofs.SoundLaws.{part-each, part-distinct, keep-part}
 use Rattle.serverlist.proofs.ServerLaws.{ordered, lawful, is-expiry-after}
 use Rattle.serverlist.proofs.PackLaws.{packed-held}
 use Rattle.serverlist.proofs.FormLaws.{orderly, sound-count, unexpired-fits}
-use Rattle.rdnss.specs.Area.{options, isArea, acts, lifetimeOf, addresses}
+use Rattle.rdnss.specs.Area.{options, isArea, isActing, lifetimeOf, addresses}
 use Rattle.rdnss.specs.ServerList.{optionApplied, applied, serverList}
 use Rattle.rdnss.specs.Claims.{Evicts, EvictsFirst, StaysSound, namedBy, isNamed, Less, fullLists, WasEvicted, HeldOrEvicted, isThere, wasThere, evictions, isUnnamed, KeepsUnnamed, isUntil, NamesLast, WithdrawsLast}
 use Rattle.rdnss.proofs.NamingLaws.{all-distinct, all-each, all-stay-absent, unmarked-items, withdrawn-absent}
@@ -65,7 +65,7 @@ module _ (clock : Moment) where
   option-sound : (l : List Server) (v : List ℕ) → orderly l ≡ true → orderly (optionApplied clock l v) ≡ true
   unfolding optionApplied
   option-sound l v h =
-      cond-case (λ (m : List Server). orderly m ≡ true) (acts v)
+      cond-case (λ (m : List Server). orderly m ≡ true) (isActing v)
       (λ _.
       and-both _ _
       (all-distinct servers lawful (eqb (lifetimeOf v .0) 0) (expiryAfter clock (lifetimeOf v)) (addresses v) l (and-left (distinct servers l) (each (λ e. isExpiry (expires e)) l) h))
@@ -126,14 +126,14 @@ unrefused list clock area h = go (isSound list) refl (isTimely list clock) refl 
     go false s t q a r = absurd (let e : 31 ≡ 0 = ap (λ r. r .refusal) (refused-31 list clock area s) ∙ h in omega arith)
 
 -- an option names the addresses that count where it acts, and none where it does not
-named-if : (v : List ℕ) → acts v ≡ true → namedBy v ≡ addresses v
+named-if : (v : List ℕ) → isActing v ≡ true → namedBy v ≡ addresses v
 named-if v h = rw h
 
 -- the full lists that gave one up for an option
 abbrev fullOf : Moment → List Server → List ℕ → List (List Server)
-fullOf clock l v = cond (acts v) (fullLists servers (eqb (lifetimeOf v .0) 0) (expiryAfter clock (lifetimeOf v)) (map unmarked l) (addresses v)) []
+fullOf clock l v = cond (isActing v) (fullLists servers (eqb (lifetimeOf v .0) 0) (expiryAfter clock (lifetimeOf v)) (map unmarked l) (addresses v)) []
 
-full-of : (clock : Moment) (l : List Server) (v : List ℕ) → acts v ≡ true → fullOf clock l v ≡ fullLists servers (eqb (lifetimeOf v .0) 0) (expiryAfter clock (lifetimeOf v)) (map unmarked l) (addresses v)
+full-of : (clock : Moment) (l : List Server) (v : List ℕ) → isActing v ≡ true → fullOf clock l v ≡ fullLists servers (eqb (lifetimeOf v .0) 0) (expiryAfter clock (lifetimeOf v)) (map unmarked l) (addresses v)
 full-of clock l v h = rw h
 
 -- the entries that a test passes, of which no option names one: all but what was evicted
@@ -141,9 +141,9 @@ module _ (clock : Moment) (gone : Server → Type 0) (test : Server → Bool) wh
   option-less : (l : List Server) (v : List ℕ) → ((e : Server) → oneOf (λ b. servers .same b (e .address)) (namedBy v) ≡ true → test e ≡ false)
       → ((e : Server) → WasEvicted servers e (fullOf clock l v) → gone e) → Less gone (keep test l) (keep test (optionApplied clock l v))
   unfolding namedAll
-  option-less l v out g = go (acts v) refl
+  option-less l v out g = go (isActing v) refl
     where
-      go : (b : Bool) → acts v ≡ b → Less gone (keep test l) (keep test (optionApplied clock l v))
+      go : (b : Bool) → isActing v ≡ b → Less gone (keep test l) (keep test (optionApplied clock l v))
       go true t =
           rw (acting clock l v t)
           (subst (λ (m : List Server). Less gone (keep test m) (keep test (namedAll servers (eqb (lifetimeOf v .0) 0) (expiryAfter clock (lifetimeOf v)) (addresses v) l))) (unmarked-items l)
@@ -175,12 +175,12 @@ module _ (clock : Moment) (a : Address6) where
   option-names : (l : List Server) (v : List ℕ) → isNamed (v ∷ []) a ≡ true → (lifetimeOf v .0 ≡ 0 → ⊥)
       → Still (λ e. WasEvicted servers e (fullOf clock l v)) (isUntil a (expiryAfter clock (lifetimeOf v))) (optionApplied clock l v)
   unfolding oneOf namedAll
-  option-names l v n z = go (acts v) refl
+  option-names l v n z = go (isActing v) refl
     where
       named : oneOf (λ b. servers .same b a) (namedBy v) ≡ true
       named = sym (or-false (oneOf (λ b. servers .same b a) (namedBy v))) ∙ n
 
-      go : (b : Bool) → acts v ≡ b → Still (λ e. WasEvicted servers e (fullOf clock l v)) (isUntil a (expiryAfter clock (lifetimeOf v))) (optionApplied clock l v)
+      go : (b : Bool) → isActing v ≡ b → Still (λ e. WasEvicted servers e (fullOf clock l v)) (isUntil a (expiryAfter clock (lifetimeOf v))) (optionApplied clock l v)
       go true t =
           let x = expiryAfter clock (lifetimeOf v) in
           let f : fullLists servers false x (map unmarked l) (addresses v) ≡ fullOf clock l v = sym (full-of clock l v t ∙ ap (λ (b : Bool). fullLists servers b x (map unmarked l) (addresses v)) (ne-eqb (lifetimeOf v .0) 0 z)) in
@@ -250,20 +250,20 @@ module _ (clock : Moment) (a : Address6) where
       stay-absent vs (optionApplied clock l v) (or-right (oneOf (λ b. servers .same b a) (namedBy v)) (isNamed vs a) n) (option-absent l v (or-left (oneOf (λ b. servers .same b a) (namedBy v)) (isNamed vs a) n) h)
     where
       option-absent : (l : List Server) (v : List ℕ) → oneOf (λ b. servers .same b a) (namedBy v) ≡ false → isHeld servers a l ≡ false → isHeld servers a (optionApplied clock l v) ≡ false
-      option-absent l v n h = go (acts v) refl
+      option-absent l v n h = go (isActing v) refl
         where
-          go : (b : Bool) → acts v ≡ b → isHeld servers a (optionApplied clock l v) ≡ false
+          go : (b : Bool) → isActing v ≡ b → isHeld servers a (optionApplied clock l v) ≡ false
           go true t = ap (isHeld servers a) (acting clock l v t) ∙ all-stay-absent servers lawful a (eqb (lifetimeOf v .0) 0) (expiryAfter clock (lifetimeOf v)) (addresses v) l (ap (oneOf (λ b. servers .same b a)) (sym (named-if v t)) ∙ n) h
           go false t = ap (isHeld servers a) (ignored clock l v t) ∙ h
 
   withdrawn-last : (l : List Server) (v : List ℕ) → distinct servers l ≡ true → isNamed (v ∷ []) a ≡ true → lifetimeOf v .0 ≡ 0 → isHeld servers a (optionApplied clock l v) ≡ false
   unfolding oneOf
-  withdrawn-last l v d n z = go (acts v) refl
+  withdrawn-last l v d n z = go (isActing v) refl
     where
       named : oneOf (λ b. servers .same b a) (namedBy v) ≡ true
       named = sym (or-false (oneOf (λ b. servers .same b a) (namedBy v))) ∙ n
 
-      go : (b : Bool) → acts v ≡ b → isHeld servers a (optionApplied clock l v) ≡ false
+      go : (b : Bool) → isActing v ≡ b → isHeld servers a (optionApplied clock l v) ≡ false
       go true t = ap (isHeld servers a) (withdraws clock l v t z) ∙ withdrawn-absent servers lawful a (addresses v) l (ap (oneOf (λ b. servers .same b a)) (sym (named-if v t)) ∙ named) d
       go false t = absurd (false≢true (ap (λ (c : Bool). oneOf (λ b. servers .same b a) (cond c (addresses v) [])) (sym t) ∙ named))
 

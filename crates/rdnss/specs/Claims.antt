@@ -12,7 +12,7 @@ use Rattle.serverlist.specs.Servers.{servers, held, expires, isSound, unexpired
 use Rattle.serverlist.specs.declared.Address6.{Address6}
 use Rattle.serverlist.specs.declared.Server.{Server}
 use Rattle.serverlist.specs.declared.ServerList.{ServerList}
-use Rattle.rdnss.specs.Area.{options, acts, lifetimeOf, addresses}
+use Rattle.rdnss.specs.Area.{options, isActing, lifetimeOf, addresses}
 use Rattle.rdnss.specs.ServerList.{optionApplied, serverList}
 
 -- An eviction takes one entry and leaves the others as they stood. That entry expires no later than any, and all behind it expire later.
@@ -35,7 +35,7 @@ StaysSound = (list : ServerList) (clock : Moment) (area : List ℕ) → isSound 
 
 -- The addresses that an option names: those that count, if it acts.
 abbrev pub namedBy : List ℕ → List Address6
-namedBy option = cond (acts option) (addresses option) []
+namedBy option = cond (isActing option) (addresses option) []
 
 -- Whether one of these options names an address.
 abbrev pub isNamed : List (List ℕ) → Address6 → Bool
@@ -73,7 +73,7 @@ module _ {K X E : Type 0} (kind : Kind K X E) where
 unfoldable pub evictions : Moment → List Server → List (List ℕ) → List (List Server)
 evictions clock l [] = []
 evictions clock l (v ∷ vs) =
-    cond (acts v) (fullLists servers (eqb (lifetimeOf v .0) 0) (expiryAfter clock (lifetimeOf v)) (map unmarked l) (addresses v)) []
+    cond (isActing v) (fullLists servers (eqb (lifetimeOf v .0) 0) (expiryAfter clock (lifetimeOf v)) (map unmarked l) (addresses v)) []
     ++ evictions clock (optionApplied clock l v) vs
 
 -- Whether no option of an area names what an entry is about.

@@ -1,4 +1,4 @@
--- The list in its places while an area is applied, as the inner functions have it. No promise of a public call cites this.
+-- The list in its places while an area is applied, as the inner functions have it. No promise of an exported call cites this.
 use mathlib.Core.List.{List, foldl}
 use mathlib.Core.Path.{_≡_}
 use Prim.Native.Nat.{ℕ, _*_, _≤_}

@@ -1,6 +1,7 @@
 // The answer of the server list call as lines of text, as the program `servers` prints it.
 use clock::Moment;
 use rdnss::ServerListAnswer;
+use serverlist::PLACES;
 use serverlist::Server;
 use serverlist::ServerList;
 use serverlist::entry;
@@ -8,6 +9,7 @@ ghost use Prim.Native.Nat.{_*_, _≤_, min};
 ghost use mathlib.Core.Path.{_≡_};
 ghost use lib.ListN.{take};
 ghost use Rattle.octets.specs.Write.{Laid};
+ghost use Rattle.serverlist.specs.Entries.{places};
 ghost use Rattle.serverlist.specs.Servers.{held};
 ghost use Rattle.serverlines.specs.Lines.{expiryText, serverLine, serverLines, listLines, refusalLine, answerLines, areaLines};
 ghost use Rattle.serverlines.specs.Inner.{PutWithin};
@@ -39,7 +41,7 @@ fn put_server(buf: &mut [u8], at: usize, e: Server) -> usize
 
 // A line for each of the first n entries.
 fn put_servers(buf: &mut [u8], at: usize, l: ServerList, n: usize) -> usize
-    requires { ⌜ n ≤ 8 ⌝ }
+    requires { ⌜ n ≤ places ⌝ }
     ensures { λ r. ⌜ PutWithin (54 * n) (now (buf .entry)) at (serverLines (take n (l .entries))) (now (buf .exit)) r ⌝ }
 {
     let mut end = at;
@@ -54,9 +56,9 @@ fn put_servers(buf: &mut [u8], at: usize, l: ServerList, n: usize) -> usize
 
 // How many entries a list with this count holds: no more than it has places.
 fn held_count(count: usize) -> usize
-    ensures { λ r. ⌜ r ≡ min count 8 ⌝ }
+    ensures { λ r. ⌜ r ≡ min count places ⌝ }
 {
-    if count < 8 { count } else { 8 }
+    if count < PLACES { count } else { PLACES }
 }
 
 // The line with the count, then a line for each server.

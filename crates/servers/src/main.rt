@@ -48,7 +48,7 @@ fn print_area(area: &[u8]) -> bool {
 
 fn main() {
     // One octet more than an area may have: of a longer input that much is enough for its refusal.
-    let mut buf = [0u8; 1501];
+    let mut buf = [0u8; rdnss::area::MOST + 1];
     let input = read_input(&mut buf);
     if input.failed {
         io::write_all(STDERR_FILENO, b"servers: error reading standard input\n");

@@ -85,7 +85,7 @@ loop-again c =
     let e = c .apply .ensures in (
       p .1,
       sym (whole-at v (l .at) n refl (t .loop-test .taken) (p .0) (p .1)) ∙ l .inv .1,
-      in-places (l .m .clock) d e (option-fits (s .clock) (held (l .m)) part (omega (arith, held-length (l .inv .2), l .inv .2 .few))),
+      in-places (l .m .clock) d e (option-fits (s .clock) (held (l .m)) part (omega (arith, held-length (l .inv .2), l .inv .2 .within))),
       of-clock (l .m .clock) d e ∙ l .inv .3,
       l .inv .4 ∙ ap (foldl (optionApplied (s .clock)) (held (l .m))) (options-at v (l .at) n refl (t .loop-test .taken) (p .0) (p .1))
           ∙ ap (λ (r : List Server). foldl (optionApplied (s .clock)) r (options 0 (drop (l .at + n) v)))
