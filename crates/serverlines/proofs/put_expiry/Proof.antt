@@ -1,5 +1,8 @@
 use borrow.Author.Needs.{needs}
+use mathlib.Core.Bool.{true, false}
+use mathlib.Core.Path.{_≡_}
 use native.Mathlib.Omega.{arith}
+use Rattle.clock.specs.Clock.{isNever}
 use Rattle.octets.proofs.WriteLaws.{written}
 use borrow.Author.Tests.{eq-eqb, ne-eqb}
 use Rattle.text.specs.Text.{ascii}
@@ -20,7 +23,9 @@ returns : tie.Need-returns
 unfolding ascii
 returns c =
     let w = c .before .before in
-    rw (expiry-never _ (eq-eqb _ _ (w .before .before .before .if1 .taken))) (record { wrote = written (w .put-octets .ensures); short = omega arith })
+    let x = w .before .before .before .before .before .before .args .x in
+    let h : isNever x ≡ true = eq-eqb _ _ (w .before .before .before .if1 .taken) in
+    rw (expiry-never x h) (record { wrote = written (w .put-octets .ensures); short = omega arith })
 
 put-decimal-requires : tie.Need-put-decimal-requires
 put-decimal-requires c κs = search needs
@@ -31,7 +36,9 @@ same-length-2 c = search needs
 returns-2 : tie.Need-returns-2
 returns-2 c =
     let w = c .before .before in
-    rw (expiry-seconds _ (ne-eqb _ _ (w .before .before .if1 .left))) (record { wrote = written (w .put-decimal .ensures); short = twenty _ (omega arith) })
+    let x = w .before .before .before .before .before .args .x in
+    let h : isNever x ≡ false = ne-eqb _ _ (w .before .before .if1 .left) in
+    rw (expiry-seconds x h) (record { wrote = written (w .put-decimal .ensures); short = twenty _ (omega arith) })
 
 pub put-expiry-spec : {M : Type 1} → statement M
 put-expiry-spec =
