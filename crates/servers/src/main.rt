@@ -3,7 +3,9 @@
 use libc::STDERR_FILENO;
 use libc::STDIN_FILENO;
 use libc::STDOUT_FILENO;
-ghost use Rattle.io.specs.Counts.{Counts};
+ghost use mathlib.Core.Path.{_≡_};
+ghost use Prim.Native.Nat.{_≤_};
+ghost use lib.ListN.{length, take};
 
 // What came of reading: how many octets there are, and whether a read failed.
 pub(crate) struct Input {
@@ -13,7 +15,7 @@ pub(crate) struct Input {
 
 // Reads until the buffer is full, the input ends or a read fails.
 fn read_input(buf: &mut [u8]) -> Input
-    ensures { λ r. ⌜ Counts (r .count) (now (buf .exit)) ⌝ }
+    ensures { λ r. ⌜ (r .count ≤ length (now (buf .exit))) × (r .count ≡ length (take (r .count) (now (buf .exit)))) ⌝ }
 {
     let mut n: usize = 0;
     while n < buf.len() {
