@@ -131,8 +131,9 @@ cases =
     -- P6: a label of 63 octets passes, one of 64 is refused
     ∷ option (0 ∷ 63 ∷ replicate 63 97 ++ (0 ∷ [])) stage (0 ∷ 63 ∷ replicate 63 97 ++ (0 ∷ [])) 66
     ∷ option (0 ∷ 64 ∷ replicate 64 97 ++ (0 ∷ [])) stage [] (refusal 11)
-    -- P7: an option of Length 4 is ignored
-    ∷ area 0 [] 0 (servers 4 60 (replicate 24 1)) []
+    -- P7: an option of Length 4 is ignored: it neither renews the server that it names nor withdraws it
+    ∷ area 0 (server 1 90 ∷ []) 0 (servers 4 60 (replicate 24 1)) (server 1 90 ∷ [])
+    ∷ area 0 (server 1 90 ∷ []) 0 (servers 4 0 (replicate 24 1)) (server 1 90 ∷ [])
     -- P8: the list holds C, an option names A and B: A, B, C
     ∷ area 0 (server 3 90 ∷ []) 0 (servers 5 60 (replicate 16 1 ++ replicate 16 2)) (server 1 60 ∷ server 2 60 ∷ server 3 90 ∷ [])
     -- P9: Lifetime 60 at 100; held at 160, gone at 161

@@ -1,16 +1,16 @@
 -- The laws of the walk over an option area. Assumes nothing.
 use mathlib.Core.Path.{_≡_, refl, ap, sym, _∙_}
-use mathlib.Core.Bool.{true, false, _&&_, and-false}
+use mathlib.Core.Bool.{Bool, true, false, _&&_, and-false, false≢true}
 use mathlib.Core.List.{List, [], _∷_}
 use Prim.Native.Nat.{ℕ, zero, suc, _+_, _-_, _*_, _/_, _%_, _≤_, _<_, min}
 use native.Mathlib.Omega.{arith}
 use lib.Dec.{leb, eqb}
-use borrow.Author.Tests.{leb-true, le-leb, lt-leb, eq-eqb, ne-eqb}
+use borrow.Author.Tests.{leb-true, leb-false, le-leb, lt-leb, eq-eqb, ne-eqb}
 use lib.ListN.{length, take, drop, getD, length-drop, drop-of-length-le}
 use native.Mathlib.Nat.{div-mul-le-self}
 use lib.Seq.{drop-drop, getD-drop, getD-take, length-take-le}
 use Rattle.octets.proofs.BoolLaws.{and-left, and-right}
-use Rattle.rdnss.specs.Area.{isWhole, options, typeOf, lengthOf, acts}
+use Rattle.rdnss.specs.Area.{isWhole, options, typeOf, lengthOf, isActing}
 use Rattle.rdnss.specs.Places.{OptionFits}
 
 -- the octets still to come, skipped at once
@@ -66,6 +66,18 @@ whole-long (t ∷ []) z h = refl
 whole-long (t ∷ zero ∷ s) z h = refl
 whole-long (t ∷ suc m ∷ s) z h = whole-short (6 + 8 * m) s (omega arith)
 
+-- an option of an area that is whole: it has a Length, and all its octets
+pub whole-first : (w : List ℕ) → 0 < length w → isWhole 0 w ≡ true → (0 < lengthOf w * 8) × (lengthOf w * 8 ≤ length w)
+unfolding isWhole
+whole-first [] z h = absurd (omega arith)
+whole-first (t ∷ []) z h = absurd (false≢true h)
+whole-first (t ∷ zero ∷ s) z h = absurd (false≢true h)
+whole-first (t ∷ suc m ∷ s) z h = (omega arith, within (leb (6 + 8 * m) (length s)) refl)
+  where
+    within : (b : Bool) → leb (6 + 8 * m) (length s) ≡ b → suc m * 8 ≤ length (t ∷ suc m ∷ s)
+    within true q = omega (arith, leb-true (6 + 8 * m) (length s) q)
+    within false q = absurd (false≢true (sym (whole-short (6 + 8 * m) s (leb-false (6 + 8 * m) (length s) q)) ∙ h))
+
 pub whole-end : isWhole 0 [] ≡ true
 unfolding isWhole
 whole-end = refl
@@ -76,20 +88,20 @@ options-end = refl
 
 -- which options act
 module _ (v : List ℕ) where
-  pub not-type : (typeOf v ≡ 25 → ⊥) → acts v ≡ false
-  unfolding acts
+  pub not-type : (typeOf v ≡ 25 → ⊥) → isActing v ≡ false
+  unfolding isActing
   not-type h = rw (ne-eqb (typeOf v) 25 h)
 
-  pub too-short : lengthOf v < 3 → acts v ≡ false
-  unfolding acts
+  pub too-short : lengthOf v < 3 → isActing v ≡ false
+  unfolding isActing
   too-short h = rw (lt-leb 3 (lengthOf v) h, and-false)
 
-  pub odd-acts : typeOf v ≡ 25 → 3 ≤ lengthOf v → acts v ≡ eqb (lengthOf v % 2) 1
-  unfolding acts
+  pub odd-acts : typeOf v ≡ 25 → 3 ≤ lengthOf v → isActing v ≡ eqb (lengthOf v % 2) 1
+  unfolding isActing
   odd-acts t h = rw (eq-eqb (typeOf v) 25 t, le-leb 3 (lengthOf v) h)
 
-  pub acting-length : acts v ≡ true → 3 ≤ lengthOf v
-  unfolding acts
+  pub acting-length : isActing v ≡ true → 3 ≤ lengthOf v
+  unfolding isActing
   acting-length h = leb-true 3 (lengthOf v) (and-right (eqb (typeOf v) 25) (leb 3 (lengthOf v)) (and-left (eqb (typeOf v) 25 && leb 3 (lengthOf v)) (eqb (lengthOf v % 2) 1) h))
 
 -- the addresses that count are there
@@ -106,6 +118,11 @@ module _ (area : List ℕ) (at n : ℕ) (e : n ≡ getD area (at + 1) 0 * 8) (h 
 
   pub long-at : length area < at + n → isWhole 0 (drop at area) ≡ false
   long-at k = whole-long (drop at area) (omega (arith, length-drop at area)) (omega (arith, length-at, length-drop at area))
+
+  pub first-at : isWhole 0 (drop at area) ≡ true → (0 < n) × (at + n ≤ length area)
+  first-at w =
+      let p = whole-first (drop at area) (omega (arith, length-drop at area)) w in
+      (omega (arith, length-at, p .0), omega (arith, length-at, p .1, length-drop at area))
 
   module _ (z : 0 < n) (f : at + n ≤ length area) where
     pub whole-at : isWhole 0 (drop at area) ≡ isWhole 0 (drop (at + n) area)

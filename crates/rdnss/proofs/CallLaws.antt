@@ -3,7 +3,8 @@ use mathlib.Core.Path.{_≡_}
 use mathlib.Core.Bool.{true, false}
 use mathlib.Core.List.{List, foldl}
 use Prim.Native.Nat.{ℕ, _≤_, _<_}
-use lib.Dec.{eqb}
+use lib.Dec.{leb, eqb}
+use Rattle.octets.proofs.BoolLaws.{and-right}
 use lib.ListN.{length}
 use borrow.Author.Tests.{le-leb, lt-leb, eq-eqb, ne-eqb}
 use Rattle.clock.specs.Clock.{expiryAfter}
@@ -14,15 +15,15 @@ use Rattle.serverlist.specs.declared.Server.{Server}
 use Rattle.serverlist.specs.declared.ServerList.{ServerList}
 use Rattle.serverlist.proofs.EntryLaws.{cond-case}
 use Rattle.serverlist.proofs.MarkLaws.{withdrawn-all, all-fits}
-use Rattle.rdnss.specs.Area.{isWhole, isArea, acts, lifetimeOf, addresses}
+use Rattle.rdnss.specs.Area.{isWhole, isArea, isActing, lifetimeOf, addresses}
 use Rattle.rdnss.specs.ServerList.{applied, answer, optionApplied, serverList}
 
 module _ (clock : Moment) (l : List Server) (v : List ℕ) where
-  pub ignored : acts v ≡ false → optionApplied clock l v ≡ l
+  pub ignored : isActing v ≡ false → optionApplied clock l v ≡ l
   unfolding optionApplied
   ignored h = rw h
 
-  module _ (h : acts v ≡ true) where
+  module _ (h : isActing v ≡ true) where
     pub acting : optionApplied clock l v ≡ namedAll servers (eqb (lifetimeOf v .0) 0) (expiryAfter clock (lifetimeOf v)) (addresses v) l
     unfolding optionApplied
     acting = rw h
@@ -37,7 +38,7 @@ module _ (clock : Moment) (l : List Server) (v : List ℕ) where
 
   pub option-fits : length l ≤ places → length (optionApplied clock l v) ≤ places
   unfolding optionApplied
-  option-fits h = cond-case (λ (m : List Server). length m ≤ places) (acts v) (λ _. all-fits servers (eqb (lifetimeOf v .0) 0) (expiryAfter clock (lifetimeOf v)) (addresses v) l h) (λ _. h)
+  option-fits h = cond-case (λ (m : List Server). length m ≤ places) (isActing v) (λ _. all-fits servers (eqb (lifetimeOf v .0) 0) (expiryAfter clock (lifetimeOf v)) (addresses v) l h) (λ _. h)
 
 pub area-long : (area : List ℕ) → 1500 < length area → isArea area ≡ false
 unfolding isArea
@@ -46,6 +47,10 @@ area-long area h = rw (lt-leb (length area) 1500 h)
 pub area-short : (area : List ℕ) → length area ≤ 1500 → isArea area ≡ isWhole 0 area
 unfolding isArea
 area-short area h = rw (le-leb (length area) 1500 h)
+
+pub area-whole : (area : List ℕ) → isArea area ≡ true → isWhole 0 area ≡ true
+unfolding isArea
+area-whole area h = and-right (leb (length area) 1500) (isWhole 0 area) h
 
 -- the stages of the call
 module _ (list : ServerList) (clock : Moment) (area : List ℕ) where

@@ -2,22 +2,14 @@
 use mathlib.Core.Path.{_≡_, refl, ap, sym, _∙_}
 use mathlib.Core.Bool.{Bool, true, false, not, cond, _&&_, _||_, or-true, false≢true}
 use mathlib.Core.List.{List, [], _∷_, map, foldl}
-use lib.Dec.{ltb}
-use lib.ListN.{length, length-map}
-use native.Mathlib.Omega.{arith}
-use borrow.Author.Tests.{not-true, ltb-false}
+use borrow.Author.Tests.{not-true}
 use Rattle.octets.proofs.BoolLaws.{and-both, and-left, and-right, or-left, or-right}
-use Rattle.serverlist.specs.Entries.{Kind, Marked, places, keep, oneOf, each, isAbout, isHeld, distinct, removed, renewed, evicted, roomed, unmarked, inserted, marking, named, namedAll}
+use Rattle.serverlist.specs.Entries.{Kind, Marked, keep, oneOf, each, isAbout, isHeld, distinct, removed, renewed, evicted, roomed, unmarked, items, inserted, marking, named, namedAll}
 use Rattle.serverlist.proofs.EntryLaws.{cond-case}
 use Rattle.serverlist.proofs.SoundLaws.{Lawful, lawful-marking, part-each, part-none, part-distinct, removed-part, roomed-part, renewed-held, renewed-distinct, renewed-each, inserted-one, inserted-each}
-use Rattle.rdnss.specs.Claims.{Keeps, KeepsKeys}
-use Rattle.rdnss.specs.Claims.Keeps.{same, evicts}
 
 -- Marks play no part in what holds of the entries.
 module _ {E : Type 0} where
-  abbrev pub items : List (Marked E) → List E
-  items l = map (λ m. m .item) l
-
   pub items-one : (p : E → Bool) (l : List (Marked E)) → oneOf p (items l) ≡ oneOf (λ m. p (m .item)) l
   unfolding oneOf
   items-one p [] = refl
@@ -194,35 +186,3 @@ inserted-keeps {E} test m n (d ∷ l) =
     cond-case (λ (r : List (Marked E)). cond (test d) (d ∷ keep test l) (keep test l) ≡ keep test r) (d .own)
     (λ _. ap (λ (r : List (Marked E)). cond (test d) (d ∷ r) r) (inserted-keeps test m n l))
     (λ _. sym (ap (λ (b : Bool). cond b (m ∷ cond (test d) (d ∷ keep test l) (keep test l)) (cond (test d) (d ∷ keep test l) (keep test l))) n))
-
-module _ {K X E : Type 0} (kind : Kind K X E) (w : Lawful kind) (test : E → Bool) where
-  same-items : (l m : List (Marked E)) → keep (λ n. test (n .item)) l ≡ keep (λ n. test (n .item)) m → keep test (items m) ≡ keep test (items l)
-  same-items l m h = items-keep test m ∙ ap items (sym h) ∙ sym (items-keep test l)
-
-  inserted-kept : (l : List (Marked E)) (k : K) (x : X) → test (kind .entry k x) ≡ false → Keeps kind test (items l) (items (inserted (marking kind .entry k x) (roomed (marking kind) l)))
-  unfolding roomed
-  inserted-kept l k x n =
-      cond-case (λ (r : List (Marked E)). Keeps kind test (items l) (items (inserted (marking kind .entry k x) r))) (ltb (length l) places)
-      (λ _. same (stays l))
-      (λ t. evicts (omega (arith, length-map l (λ m. m .item), ltb-false (length l) places t)) (stays (evicted (marking kind) l) ∙ ap (keep test) (items-evicted kind l)))
-    where
-      stays : (r : List (Marked E)) → keep test (items (inserted (marking kind .entry k x) r)) ≡ keep test (items r)
-      stays r = same-items r (inserted (marking kind .entry k x) r) (inserted-keeps (λ m. test (m .item)) (marking kind .entry k x) n r)
-
-  named-kept : (b : Bool) (x : X) (l : List (Marked E)) (k : K) → ((e : E) → isAbout kind k e ≡ true → test e ≡ false) → Keeps kind test (items l) (items (named kind b x l k))
-  unfolding named
-  named-kept b x l k out =
-      cond-case (λ (r : List (Marked E)). Keeps kind test (items l) (items r)) b
-      (λ _. same (same-items l (removed (marking kind) k l) (removed-keeps (marking kind) (lawful-marking kind w) (λ m. test (m .item)) k (λ m. out (m .item)) l)))
-      (λ _.
-      cond-case (λ (r : List (Marked E)). Keeps kind test (items l) (items r)) (isHeld (marking kind) k l)
-      (λ _. same (same-items l (renewed (marking kind) k x l) (renewed-keeps (marking kind) (lawful-marking kind w) (λ m. test (m .item)) k (λ m. out (m .item)) x l)))
-      (λ _. inserted-kept l k x (made-out kind w test k out x)))
-
-  pub keys-kept : (b : Bool) (x : X) (keys : List K) (l : List (Marked E)) → ((e : E) → oneOf (λ k. isAbout kind k e) keys ≡ true → test e ≡ false) → KeepsKeys kind test b x l keys
-  unfolding oneOf
-  keys-kept b x [] l out = tt
-  keys-kept b x (k ∷ keys) l out = (
-    named-kept b x l k (λ e t. out e (ap (λ (c : Bool). c || oneOf (λ k. isAbout kind k e) keys) t)),
-    keys-kept b x keys (named kind b x l k) (λ e t. out e (ap (λ (c : Bool). isAbout kind k e || c) t ∙ or-true (isAbout kind k e))),
-  )

@@ -57,14 +57,14 @@ module _ (p : Placed) (r : Ready p) where
     pub own-evicted : k < p .at → Holds (p .list .clock) (roomed (marking servers) (marks p)) (record { list = m; at = p .at - 1 })
     own-evicted h =
         holding (p .list .clock) (removeAt k (held (p .list))) (p .at - 1) (roomed (marking servers) (marks p)) q
-        (omega (arith, count, held-length (r .list), r .list .few))
+        (omega (arith, count, held-length (r .list), r .list .within))
         (omega (arith, count, held-length (r .list), r .own))
         (ap (λ (n : ℕ). marked (p .at - 1) (removeAt n (held (p .list)))) e ∙ sym (evicted-own servers (p .at) (held (p .list)) (omega arith)) ∙ sym evicting)
 
     pub other-evicted : p .at ≤ k → Holds (p .list .clock) (roomed (marking servers) (marks p)) (record { list = m; at = p .at })
     other-evicted h =
         holding (p .list .clock) (removeAt k (held (p .list))) (p .at) (roomed (marking servers) (marks p)) q
-        (omega (arith, count, held-length (r .list), r .list .few))
+        (omega (arith, count, held-length (r .list), r .list .within))
         (omega (arith, count, within))
         (ap (λ (n : ℕ). marked (p .at) (removeAt n (held (p .list)))) e ∙ sym (evicted-other servers (p .at) (held (p .list)) (omega arith)) ∙ sym evicting)
 
@@ -72,7 +72,7 @@ module _ (p : Placed) (r : Ready p) where
 module _ (c : Moment) (p q : Placed) (r : Ready p) (h : Holds c (roomed (marking servers) (marks p)) q) where
   pub room-made : q .list .count < 8
   room-made =
-      omega (arith, marks-length q (h .ready), ap length (h .holds), roomed-length (marking servers) (marks p) (omega (arith, marks-length p r, r .list .few)))
+      omega (arith, marks-length q (h .ready), ap length (h .holds), roomed-length (marking servers) (marks p) (omega (arith, marks-length p r, r .list .within)))
 
   pub put-in : (a : Address6) (x : Moment) {m : ServerList} → m ≡ packed (q .list .clock) (insertAt (q .at) (servers .entry a x) (held (q .list)))
       → Holds c (inserted (marking servers .entry a x) (roomed (marking servers) (marks p))) (record { list = m; at = q .at + 1 })
@@ -98,7 +98,7 @@ module _ (p : Placed) (r : Ready p) (a : Address6) (x : Moment) (k : ℕ) (e : k
       let d = replaceAt k (servers .renew x (getD (held (p .list)) k blank)) (held (p .list)) in
       let n : length d ≡ length (held (p .list)) = replaced-length k (servers .renew x (getD (held (p .list)) k blank)) (held (p .list)) (omega (arith, held-length (r .list))) in
       holding (p .list .clock) d (p .at) (named servers false x (marks p) a) q
-      (omega (arith, n, held-length (r .list), r .list .few))
+      (omega (arith, n, held-length (r .list), r .list .within))
       (omega (arith, n, held-length (r .list), r .own))
       (ap (λ (j : ℕ). marked (p .at) (replaceAt j (servers .renew x (getD (held (p .list)) j blank)) (held (p .list)))) e
       ∙ ap (marked (p .at)) (sym (renewed-at servers a x blank (held (p .list)) w))
@@ -138,7 +138,7 @@ addresses-end n j s h =
 -- one address withdrawn more
 module _ {m r : ServerList} (i : InPlaces m) (a : Address6) (e : r ≡ packed (m .clock) (removed servers a (held m))) where
   pub withdrawn-places : InPlaces r
-  withdrawn-places = in-places (m .clock) (removed servers a (held m)) e (omega (arith, removed-le servers a (held m), held-length i, i .few))
+  withdrawn-places = in-places (m .clock) (removed servers a (held m)) e (omega (arith, removed-le servers a (held m), held-length i, i .within))
 
   pub withdrawn-held : held r ≡ removed servers a (held m)
   withdrawn-held = of-held (m .clock) (removed servers a (held m)) e

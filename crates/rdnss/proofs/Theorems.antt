@@ -1,16 +1,16 @@
 -- The claims of specs/Claims.antt, proved. Assumes nothing.
-use mathlib.Core.Path.{_≡_, refl, ap, sym, _∙_}
+use mathlib.Core.Path.{_≡_, refl, ap, sym, subst, _∙_}
 use mathlib.Core.Bool.{Bool, true, false, not, cond, _&&_, _||_, or-false, or-true, false≢true}
 use mathlib.Core.List.{List, [], _∷_, map, foldl, foldl-append}
 use Prim.Native.Nat.{ℕ, _≤_, _<_}
 use native.Mathlib.Omega.{arith}
 use lib.Dec.{leb, eqb}
 use lib.ListN.{length}
-use borrow.Author.Tests.{le-leb}
+use borrow.Author.Tests.{le-leb, eq-eqb, ne-eqb}
 use Rattle.octets.proofs.BoolLaws.{and-both, and-left, and-right, or-left, or-right}
 use Rattle.clock.specs.Clock.{isMoment, isExpiry, isPast, expiryAfter}
 use Rattle.clock.specs.declared.Moment.{Moment}
-use Rattle.serverlist.specs.Entries.{Kind, places, unmarked, oneOf, each, isHeld, distinct, evicted}
+use Rattle.serverlist.specs.Entries.{Kind, places, keep, unmarked, items, oneOf, each, isAbout, isHeld, distinct, evicted, namedAll}
 use Rattle.serverlist.specs.Servers.{servers, held, packed, expires, isSound, isTimely, unexpired}
 use Rattle.serverlist.specs.declared.Address6.{Address6}
 use Rattle.serverlist.specs.declared.Server.{Server}
@@ -20,11 +20,12 @@ use Rattle.serverlist.proofs.SoundLaws.{part-each, part-distinct, keep-part}
 use Rattle.serverlist.proofs.ServerLaws.{ordered, lawful, is-expiry-after}
 use Rattle.serverlist.proofs.PackLaws.{packed-held}
 use Rattle.serverlist.proofs.FormLaws.{orderly, sound-count, unexpired-fits}
-use Rattle.rdnss.specs.Area.{options, isArea, acts, lifetimeOf, addresses}
+use Rattle.rdnss.specs.Area.{options, isArea, isActing, lifetimeOf, addresses}
 use Rattle.rdnss.specs.ServerList.{optionApplied, applied, serverList}
-use Rattle.rdnss.specs.Claims.{Evicts, EvictsFirst, StaysSound, namedBy, isNamed, KeepsOptions, KeepsUnnamed, WithdrawsLast}
-use Rattle.rdnss.proofs.NamingLaws.{all-distinct, all-each, all-stay-absent, keys-kept, withdrawn-absent}
-use Rattle.rdnss.proofs.CallLaws.{refused-31, refused-15, refused-16, accepted, ignored, acting, withdraws, option-fits}
+use Rattle.rdnss.specs.Claims.{Evicts, EvictsFirst, StaysSound, namedBy, isNamed, Less, fullLists, WasEvicted, HeldOrEvicted, isThere, wasThere, evictions, isUnnamed, KeepsUnnamed, isUntil, NamesLast, WithdrawsLast}
+use Rattle.rdnss.proofs.NamingLaws.{all-distinct, all-each, all-stay-absent, unmarked-items, withdrawn-absent}
+use Rattle.rdnss.proofs.KeepingLaws.{Still, stood, went, still-for, less-same, less-equal, less-then, evicted-front, evicted-back, keys-less, keys-name, still-there}
+use Rattle.rdnss.proofs.CallLaws.{refused-31, refused-15, refused-16, accepted, ignored, acting, withdraws, names, option-fits}
 
 -- evictions
 module _ {K X E : Type 0} (kind : Kind K X E) (o : Ordered kind) where
@@ -64,7 +65,7 @@ module _ (clock : Moment) where
   option-sound : (l : List Server) (v : List ℕ) → orderly l ≡ true → orderly (optionApplied clock l v) ≡ true
   unfolding optionApplied
   option-sound l v h =
-      cond-case (λ (m : List Server). orderly m ≡ true) (acts v)
+      cond-case (λ (m : List Server). orderly m ≡ true) (isActing v)
       (λ _.
       and-both _ _
       (all-distinct servers lawful (eqb (lifetimeOf v .0) 0) (expiryAfter clock (lifetimeOf v)) (addresses v) l (and-left (distinct servers l) (each (λ e. isExpiry (expires e)) l) h))
@@ -125,26 +126,120 @@ unrefused list clock area h = go (isSound list) refl (isTimely list clock) refl 
     go false s t q a r = absurd (let e : 31 ≡ 0 = ap (λ r. r .refusal) (refused-31 list clock area s) ∙ h in omega arith)
 
 -- an option names the addresses that count where it acts, and none where it does not
-named-if : (v : List ℕ) → acts v ≡ true → namedBy v ≡ addresses v
+named-if : (v : List ℕ) → isActing v ≡ true → namedBy v ≡ addresses v
 named-if v h = rw h
 
--- the entries that no option names
-module _ (clock : Moment) (vs : List (List ℕ)) where
-  abbrev unnamed : Server → Bool
-  unnamed e = not (isNamed vs (e .address))
+-- the full lists that gave one up for an option
+abbrev fullOf : Moment → List Server → List ℕ → List (List Server)
+fullOf clock l v = cond (isActing v) (fullLists servers (eqb (lifetimeOf v .0) 0) (expiryAfter clock (lifetimeOf v)) (map unmarked l) (addresses v)) []
 
-  options-keep : (ws : List (List ℕ)) (l : List Server) → ((a : Address6) → isNamed ws a ≡ true → isNamed vs a ≡ true) → KeepsOptions unnamed clock l ws
-  unfolding oneOf
-  options-keep [] l n = tt
-  options-keep (v ∷ ws) l n = (
-    (λ h.
-        keys-kept servers lawful unnamed (eqb (lifetimeOf v .0) 0) (expiryAfter clock (lifetimeOf v)) (addresses v) (map unmarked l)
-        (λ e o. ap not (n (e .address) (ap (λ (c : Bool). c || isNamed ws (e .address)) (ap (oneOf (λ b. servers .same b (e .address))) (named-if v h) ∙ o))))),
-    options-keep ws (optionApplied clock l v) (λ a t. n a (ap (λ (c : Bool). oneOf (λ b. servers .same b a) (namedBy v) || c) t ∙ or-true (oneOf (λ b. servers .same b a) (namedBy v)))),
-  )
+full-of : (clock : Moment) (l : List Server) (v : List ℕ) → isActing v ≡ true → fullOf clock l v ≡ fullLists servers (eqb (lifetimeOf v .0) 0) (expiryAfter clock (lifetimeOf v)) (map unmarked l) (addresses v)
+full-of clock l v h = rw h
+
+-- the entries that a test passes, of which no option names one: all but what was evicted
+module _ (clock : Moment) (gone : Server → Type 0) (test : Server → Bool) where
+  option-less : (l : List Server) (v : List ℕ) → ((e : Server) → oneOf (λ b. servers .same b (e .address)) (namedBy v) ≡ true → test e ≡ false)
+      → ((e : Server) → WasEvicted servers e (fullOf clock l v) → gone e) → Less gone (keep test l) (keep test (optionApplied clock l v))
+  unfolding namedAll
+  option-less l v out g = go (isActing v) refl
+    where
+      go : (b : Bool) → isActing v ≡ b → Less gone (keep test l) (keep test (optionApplied clock l v))
+      go true t =
+          rw (acting clock l v t)
+          (subst (λ (m : List Server). Less gone (keep test m) (keep test (namedAll servers (eqb (lifetimeOf v .0) 0) (expiryAfter clock (lifetimeOf v)) (addresses v) l))) (unmarked-items l)
+          (keys-less servers lawful (evicts-first-of servers ordered) gone test (eqb (lifetimeOf v .0) 0) (expiryAfter clock (lifetimeOf v)) (addresses v) (map unmarked l)
+          (λ e o. out e (ap (oneOf (λ b. servers .same b (e .address))) (named-if v t) ∙ o))
+          (λ e w. g e (subst (WasEvicted servers e) (sym (full-of clock l v t)) w))))
+      go false t = less-equal (ap (keep test) (ignored clock l v t))
+
+  pub options-less : (vs : List (List ℕ)) (l : List Server) → ((e : Server) → isNamed vs (e .address) ≡ true → test e ≡ false)
+      → ((e : Server) → WasEvicted servers e (evictions clock l vs) → gone e) → Less gone (keep test l) (keep test (foldl (optionApplied clock) l vs))
+  unfolding oneOf evictions
+  options-less [] l out g = less-same (keep test l)
+  options-less (v ∷ vs) l out g =
+      less-then
+      (option-less l v (λ e t. out e (ap (λ (c : Bool). c || isNamed vs (e .address)) t)) (λ e w. g e (evicted-front (evictions clock (optionApplied clock l v) vs) w)))
+      (options-less vs (optionApplied clock l v)
+      (λ e t. out e (ap (λ (c : Bool). oneOf (λ b. servers .same b (e .address)) (namedBy v) || c) t ∙ or-true (oneOf (λ b. servers .same b (e .address)) (namedBy v))))
+      (λ e w. g e (evicted-back (fullOf clock l v) w)))
 
 pub keeps-unnamed : KeepsUnnamed
-keeps-unnamed list clock area h = (options-keep clock (options 0 area) (options 0 area) (unexpired clock (held list)) (λ a t. t), unrefused list clock area h .gives)
+keeps-unnamed list clock area h =
+    let u = unexpired clock (held list) in
+    let gone : Server → Type 0 = λ e. WasEvicted servers e (evictions clock u (options 0 area)) in
+    subst (λ (r : List Server). Less gone (keep (isUnnamed area) u) (keep (isUnnamed area) r)) (sym (unrefused list clock area h .gives))
+    (options-less clock gone (isUnnamed area) (options 0 area) u (λ e t. ap not t) (λ e w. w))
+
+-- an address that was named last
+module _ (clock : Moment) (a : Address6) where
+  option-names : (l : List Server) (v : List ℕ) → isNamed (v ∷ []) a ≡ true → (lifetimeOf v .0 ≡ 0 → ⊥)
+      → Still (λ e. WasEvicted servers e (fullOf clock l v)) (isUntil a (expiryAfter clock (lifetimeOf v))) (optionApplied clock l v)
+  unfolding oneOf namedAll
+  option-names l v n z = go (isActing v) refl
+    where
+      named : oneOf (λ b. servers .same b a) (namedBy v) ≡ true
+      named = sym (or-false (oneOf (λ b. servers .same b a) (namedBy v))) ∙ n
+
+      go : (b : Bool) → isActing v ≡ b → Still (λ e. WasEvicted servers e (fullOf clock l v)) (isUntil a (expiryAfter clock (lifetimeOf v))) (optionApplied clock l v)
+      go true t =
+          let x = expiryAfter clock (lifetimeOf v) in
+          let f : fullLists servers false x (map unmarked l) (addresses v) ≡ fullOf clock l v = sym (full-of clock l v t ∙ ap (λ (b : Bool). fullLists servers b x (map unmarked l) (addresses v)) (ne-eqb (lifetimeOf v .0) 0 z)) in
+          rw (names clock l v t z)
+          (still-for (λ e w. subst (WasEvicted servers e) f w)
+          (keys-name servers lawful (evicts-first-of servers ordered) a x (isUntil a x)
+          (λ e q. and-left (isAbout servers a e) (eqb (expires e .0) (x .0)) q)
+          (λ k q. and-both _ _ (lawful .turned a k ∙ q) (eq-eqb (x .0) (x .0) refl))
+          (λ e q. and-both _ _ q (eq-eqb (x .0) (x .0) refl))
+          (addresses v) (map unmarked l) (ap (oneOf (λ b. servers .same b a)) (sym (named-if v t)) ∙ named)))
+      go false t = absurd (false≢true (ap (λ (c : Bool). oneOf (λ b. servers .same b a) (cond c (addresses v) [])) (sym t) ∙ named))
+
+  -- who is named by the same address
+  keys-alike : (b : Address6) → servers .same a b ≡ true → (keys : List Address6) → oneOf (λ k. servers .same k a) keys ≡ oneOf (λ k. servers .same k b) keys
+  unfolding oneOf
+  keys-alike b s [] = refl
+  keys-alike b s (k ∷ keys) =
+      let q : servers .same k a ≡ servers .same k b = lawful .turned k a ∙ lawful .along a b k s ∙ lawful .turned b k in
+      rw (q, keys-alike b s keys)
+
+  named-alike : (b : Address6) → servers .same a b ≡ true → (vs : List (List ℕ)) → isNamed vs a ≡ isNamed vs b
+  unfolding oneOf
+  named-alike b s [] = refl
+  named-alike b s (v ∷ vs) = rw (keys-alike b s (namedBy v), named-alike b s vs)
+
+  unnamed-other : (vs : List (List ℕ)) → isNamed vs a ≡ false → (e : Server) → isNamed vs (e .address) ≡ true → isAbout servers a e ≡ false
+  unnamed-other vs n e o = go (isAbout servers a e) refl
+    where
+      go : (b : Bool) → isAbout servers a e ≡ b → isAbout servers a e ≡ false
+      go true t = absurd (false≢true (sym n ∙ named-alike (e .address) t vs ∙ o))
+      go false t = t
+
+  -- from the option that named it to the end
+  named-to-end : (l : List Server) (v : List ℕ) (vs : List (List ℕ)) → isNamed (v ∷ []) a ≡ true → (lifetimeOf v .0 ≡ 0 → ⊥) → isNamed vs a ≡ false
+      → HeldOrEvicted servers (isUntil a (expiryAfter clock (lifetimeOf v))) (foldl (optionApplied clock) (optionApplied clock l v) vs) (evictions clock l (v ∷ vs))
+  unfolding evictions
+  named-to-end l v vs n z f = go (option-names l v n z)
+    where
+      go : Still (λ e. WasEvicted servers e (fullOf clock l v)) (isUntil a (expiryAfter clock (lifetimeOf v))) (optionApplied clock l v)
+          → HeldOrEvicted servers (isUntil a (expiryAfter clock (lifetimeOf v))) (foldl (optionApplied clock) (optionApplied clock l v) vs) (evictions clock l (v ∷ vs))
+      go (went e t g) = wasThere e t (evicted-front (evictions clock (optionApplied clock l v) vs) g)
+      go (stood h) = end (still-there servers lawful (evicts-first-of servers ordered) a (expiryAfter clock (lifetimeOf v)) (isUntil a (expiryAfter clock (lifetimeOf v)))
+          (λ e q. and-left (isAbout servers a e) (eqb (expires e .0) (expiryAfter clock (lifetimeOf v) .0)) q)
+          (λ k q. and-both _ _ (lawful .turned a k ∙ q) (eq-eqb (expiryAfter clock (lifetimeOf v) .0) (expiryAfter clock (lifetimeOf v) .0) refl))
+          (λ e q. and-both _ _ q (eq-eqb (expiryAfter clock (lifetimeOf v) .0) (expiryAfter clock (lifetimeOf v) .0) refl))
+          (optionApplied clock l v) (foldl (optionApplied clock) (optionApplied clock l v) vs)
+          (options-less clock (λ e. WasEvicted servers e (evictions clock (optionApplied clock l v) vs)) (isAbout servers a) vs (optionApplied clock l v) (unnamed-other vs f) (λ e w. w)) h)
+        where
+          end : Still (λ e. WasEvicted servers e (evictions clock (optionApplied clock l v) vs)) (isUntil a (expiryAfter clock (lifetimeOf v))) (foldl (optionApplied clock) (optionApplied clock l v) vs)
+              → HeldOrEvicted servers (isUntil a (expiryAfter clock (lifetimeOf v))) (foldl (optionApplied clock) (optionApplied clock l v) vs) (evictions clock l (v ∷ vs))
+          end (stood q) = isThere q
+          end (went e t g) = wasThere e t (evicted-back (fullOf clock l v) g)
+
+pub names-last : NamesLast
+names-last list clock area h a before last after e n z f =
+    let u = unexpired clock (held list) in
+    let m = foldl (optionApplied clock) u before in
+    let q : held (serverList list clock area .list) ≡ foldl (optionApplied clock) (optionApplied clock m last) after = unrefused list clock area h .gives ∙ ap (foldl (optionApplied clock) u) e ∙ foldl-append (optionApplied clock) u before (last ∷ after) in
+    subst (λ (r : List Server). HeldOrEvicted servers (isUntil a (expiryAfter clock (lifetimeOf last))) r (evictions clock m (last ∷ after))) (sym q) (named-to-end clock a m last after n z f)
 
 -- an address that was withdrawn last
 module _ (clock : Moment) (a : Address6) where
@@ -155,20 +250,20 @@ module _ (clock : Moment) (a : Address6) where
       stay-absent vs (optionApplied clock l v) (or-right (oneOf (λ b. servers .same b a) (namedBy v)) (isNamed vs a) n) (option-absent l v (or-left (oneOf (λ b. servers .same b a) (namedBy v)) (isNamed vs a) n) h)
     where
       option-absent : (l : List Server) (v : List ℕ) → oneOf (λ b. servers .same b a) (namedBy v) ≡ false → isHeld servers a l ≡ false → isHeld servers a (optionApplied clock l v) ≡ false
-      option-absent l v n h = go (acts v) refl
+      option-absent l v n h = go (isActing v) refl
         where
-          go : (b : Bool) → acts v ≡ b → isHeld servers a (optionApplied clock l v) ≡ false
+          go : (b : Bool) → isActing v ≡ b → isHeld servers a (optionApplied clock l v) ≡ false
           go true t = ap (isHeld servers a) (acting clock l v t) ∙ all-stay-absent servers lawful a (eqb (lifetimeOf v .0) 0) (expiryAfter clock (lifetimeOf v)) (addresses v) l (ap (oneOf (λ b. servers .same b a)) (sym (named-if v t)) ∙ n) h
           go false t = ap (isHeld servers a) (ignored clock l v t) ∙ h
 
   withdrawn-last : (l : List Server) (v : List ℕ) → distinct servers l ≡ true → isNamed (v ∷ []) a ≡ true → lifetimeOf v .0 ≡ 0 → isHeld servers a (optionApplied clock l v) ≡ false
   unfolding oneOf
-  withdrawn-last l v d n z = go (acts v) refl
+  withdrawn-last l v d n z = go (isActing v) refl
     where
       named : oneOf (λ b. servers .same b a) (namedBy v) ≡ true
       named = sym (or-false (oneOf (λ b. servers .same b a) (namedBy v))) ∙ n
 
-      go : (b : Bool) → acts v ≡ b → isHeld servers a (optionApplied clock l v) ≡ false
+      go : (b : Bool) → isActing v ≡ b → isHeld servers a (optionApplied clock l v) ≡ false
       go true t = ap (isHeld servers a) (withdraws clock l v t z) ∙ withdrawn-absent servers lawful a (addresses v) l (ap (oneOf (λ b. servers .same b a)) (sym (named-if v t)) ∙ named) d
       go false t = absurd (false≢true (ap (λ (c : Bool). oneOf (λ b. servers .same b a) (cond c (addresses v) [])) (sym t) ∙ named))
 

@@ -1,5 +1,4 @@
--- The list in its places while an area is applied, as the inner functions have it. No promise of a public call cites this.
-use mathlib.Core.Bool.{true}
+-- The list in its places while an area is applied, as the inner functions have it. No promise of an exported call cites this.
 use mathlib.Core.List.{List, foldl}
 use mathlib.Core.Path.{_≡_}
 use Prim.Native.Nat.{ℕ, _*_, _≤_}
@@ -10,9 +9,8 @@ use Rattle.serverlist.specs.Servers.{held, packed}
 use Rattle.serverlist.specs.Places.{marked, InPlaces}
 use Rattle.serverlist.specs.declared.Server.{Server}
 use Rattle.serverlist.specs.declared.ServerList.{ServerList}
-use Rattle.rdnss.specs.Area.{isWhole, options, lengthOf}
+use Rattle.rdnss.specs.Area.{options, lengthOf}
 use Rattle.rdnss.specs.ServerList.{optionApplied}
-use Rattle.rdnss.specs.declared.area.Walked.{Walked}
 use Rattle.rdnss.specs.declared.option.Placed.{Placed}
 
 -- The entries and the marks of a list in places while an option is applied.
@@ -33,7 +31,6 @@ pub record Holds (clock : Moment) (l : List (Marked Server)) (p : Placed) : Type
 pub record OptionFits (option : List ℕ) : Type 0 where
   pub whole : 8 * lengthOf option ≤ length option
 
--- What came of an area: whether each option is there whole, and if so the list with each applied.
-pub record Walks (list : ServerList) (clock : Moment) (area : List ℕ) (r : Walked) : Type 0 where
-  pub whole : r .whole ≡ isWhole 0 area
-  pub applied : r .whole ≡ true → r .list ≡ packed (list .clock) (foldl (optionApplied clock) (held list) (options 0 area))
+-- The list with each option of an area applied.
+pub record Applies (list : ServerList) (clock : Moment) (area : List ℕ) (r : ServerList) : Type 0 where
+  pub applied : r ≡ packed (list .clock) (foldl (optionApplied clock) (held list) (options 0 area))

@@ -10,12 +10,12 @@ use Rattle.serverlist.specs.declared.ServerList.{ServerList}
 use Rattle.serverlist.specs.Entries.{namedAll}
 use Rattle.serverlist.specs.Servers.{servers, held, packed, isSound, isTimely, unexpired}
 use Rattle.rdnss.specs.declared.ServerListAnswer.{ServerListAnswer}
-use Rattle.rdnss.specs.Area.{options, isArea, acts, lifetimeOf, addresses}
+use Rattle.rdnss.specs.Area.{options, isArea, isActing, lifetimeOf, addresses}
 
 -- An option acts, or does not: Lifetime 0 withdraws, any other sets the expiry.
 unfoldable pub optionApplied : Moment → List Server → List ℕ → List Server
 optionApplied clock l option =
-    cond (acts option)
+    cond (isActing option)
     (namedAll servers (eqb (lifetimeOf option .0) 0) (expiryAfter clock (lifetimeOf option)) (addresses option) l)
     l
 

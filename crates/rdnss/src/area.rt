@@ -1,50 +1,59 @@
-// The option area of a router.
+// The option area of a router: tested whole first, and then applied.
 use crate::option;
 use clock::Moment;
 use serverlist::ServerList;
+ghost use mathlib.Core.Path.{_≡_};
+ghost use mathlib.Core.Bool.{true};
 ghost use Rattle.serverlist.specs.Places.{InPlaces};
-ghost use Rattle.rdnss.specs.Places.{Walks};
+ghost use Rattle.rdnss.specs.Area.{isWhole, isArea};
+ghost use Rattle.rdnss.specs.Places.{Applies};
 
-// What came of an area: whether each of its options is there whole, and the list with each applied.
-pub(crate) struct Walked {
-    pub whole: bool,
-    pub list: ServerList,
-}
+// The most octets that an area may have.
+pub const MOST: usize = 1500;
 
-// Each option of an area applied, from the first to the last, up to one that is not there whole.
-pub(crate) fn apply_all(l: ServerList, area: &[u8], clock: Moment) -> Walked
-    requires { ⌜ InPlaces l ⌝ }
-    ensures { λ r. ⌜ Walks l clock (now (area .entry)) r ⌝ }
+// Whether no option of an area has Length 0 or runs past the end.
+fn is_whole(area: &[u8]) -> bool
+    ensures { λ r. ⌜ r ≡ isWhole 0 (now (area .entry)) ⌝ }
 {
-    let mut m = l;
     let mut at: usize = 0;
     while at < area.len() {
         let rest = area.len() - at;
         if rest < 2 {
-            return Walked {
-                whole: false,
-                list: m,
-            };
+            return false;
         }
         let size = area[at + 1] as usize * 8;
         if size == 0 {
-            return Walked {
-                whole: false,
-                list: m,
-            };
+            return false;
         }
         if rest < size {
-            return Walked {
-                whole: false,
-                list: m,
-            };
+            return false;
         }
-        let end = at + size;
+        at += size;
+    }
+    true
+}
+
+// Whether an area is no longer than an area may be, and whole: refusal 16 is for those that are not.
+pub(crate) fn is_area(area: &[u8]) -> bool
+    ensures { λ r. ⌜ r ≡ isArea (now (area .entry)) ⌝ }
+{
+    if MOST < area.len() {
+        return false;
+    }
+    is_whole(area)
+}
+
+// Each option of a whole area applied, from the first to the last.
+pub(crate) fn apply_all(l: ServerList, area: &[u8], clock: Moment) -> ServerList
+    requires { ⌜ InPlaces l × (isWhole 0 (now area) ≡ true) ⌝ }
+    ensures { λ r. ⌜ Applies l clock (now (area .entry)) r ⌝ }
+{
+    let mut m = l;
+    let mut at: usize = 0;
+    while at < area.len() {
+        let end = at + area[at + 1] as usize * 8;
         m = option::apply(m, &area[at..end], clock);
         at = end;
     }
-    Walked {
-        whole: true,
-        list: m,
-    }
+    m
 }

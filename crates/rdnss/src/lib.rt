@@ -29,7 +29,8 @@ fn refused(refusal: u32, list: ServerList) -> ServerListAnswer
 
 // The list after a router's option area has come in at a clock. Refused are, in this order: a list
 // that is not sound (31), a clock above clock::LATEST or behind the list's (15), and an area of more
-// than 1,500 octets, or with an option of Length 0 or past the end (16).
+// than 1,500 octets, or with an option of Length 0 or past the end (16): the area is tested whole
+// before anything is applied.
 #[no_mangle]
 pub extern "C" fn jespurla_server_list(
     list: ServerList,
@@ -44,15 +45,11 @@ pub extern "C" fn jespurla_server_list(
     if !form::is_timely(list, clock) {
         return refused(15, list);
     }
-    if 1500 < area.len() {
+    if !area::is_area(area) {
         return refused(16, list);
     }
     let unexpired = expiry::without_expired(list, clock);
-    let walked = area::apply_all(unexpired, area, clock);
-    if !walked.whole {
-        return refused(16, list);
-    }
-    let applied = walked.list;
+    let applied = area::apply_all(unexpired, area, clock);
     ServerListAnswer {
         refusal: 0,
         list: applied,

@@ -14,9 +14,15 @@ ghost use lib.ListN.{length, take, drop};
 ghost use Rattle.serverlist.specs.Entries.{marking, roomed, inserted, namedAll, removed};
 ghost use Rattle.serverlist.specs.Servers.{servers, held, packed};
 ghost use Rattle.serverlist.specs.Places.{InPlaces};
-ghost use Rattle.rdnss.specs.Area.{acts, addressesFrom};
+ghost use Rattle.rdnss.specs.Area.{isActing, counted, addressesFrom};
 ghost use Rattle.rdnss.specs.ServerList.{optionApplied};
 ghost use Rattle.rdnss.specs.Places.{Ready, Holds, marks, OptionFits};
+
+// The Type of an option that names DNS servers.
+const TYPE: u8 = 25;
+
+// How many of its addresses count.
+const COUNTED: usize = 3;
 
 // A list while an option is applied, and how many of its first entries this option inserted.
 pub(crate) struct Placed {
@@ -35,7 +41,7 @@ fn insert(p: Placed, a: Address6, x: Moment) -> Placed
         address: a,
         expiry: x,
     };
-    if l.count < 8 {
+    if l.count < serverlist::PLACES {
         let m = list::insert_at(l, at, e);
         return Placed {
             list: m,
@@ -117,25 +123,25 @@ fn name_all(l: ServerList, v: &[u8], n: usize, x: Moment) -> ServerList
 
 // Whether an option acts: Type 25 with odd Length of at least 3.
 fn is_acting(option: &[u8]) -> bool
-    ensures { λ r. ⌜ r ≡ acts (now (option .entry)) ⌝ }
+    ensures { λ r. ⌜ r ≡ isActing (now (option .entry)) ⌝ }
 {
-    if octets::number::octet_at(option, 0) != 25 {
+    if octets::number::octet_at(option, 0) != TYPE {
         return false;
     }
-    let length = octets::number::octet_at(option, 1);
-    if length < 3 {
+    let units = octets::number::octet_at(option, 1);
+    if units < 3 {
         return false;
     }
-    length % 2 == 1
+    units % 2 == 1
 }
 
 // How many addresses of an option of this Length count: the first three.
-fn address_count(length: usize) -> usize
-    requires { ⌜ 3 ≤ length ⌝ }
-    ensures { λ r. ⌜ r ≡ min ((length - 1) / 2) 3 ⌝ }
+fn address_count(units: usize) -> usize
+    requires { ⌜ 3 ≤ units ⌝ }
+    ensures { λ r. ⌜ r ≡ min ((units - 1) / 2) counted ⌝ }
 {
-    let n = (length - 1) / 2;
-    if n < 3 { n } else { 3 }
+    let n = (units - 1) / 2;
+    if n < COUNTED { n } else { COUNTED }
 }
 
 // One option, as the part of the area where it starts.

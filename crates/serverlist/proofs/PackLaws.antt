@@ -37,7 +37,7 @@ module _ {m : ServerList} (c : Moment) (d : List Server) (h : m ≡ packed c d) 
   of-entries = ap (λ (x : ServerList). x .entries) h
 
   pub in-places : length d ≤ 8 → InPlaces m
-  in-places b = record { few = omega (arith, of-count); packs = h ∙ rw (of-clock, of-held) }
+  in-places b = record { within = omega (arith, of-count); packs = h ∙ rw (of-clock, of-held) }
 
 -- a list is packed when its three parts are
 pub packs : (m : ServerList) (c : Moment) (d : List Server) → m .entries ≡ fill blank d → m .count ≡ length d → m .clock ≡ c → m ≡ packed c d
@@ -60,7 +60,7 @@ module _ {l : ServerList} (p : InPlaces l) where
   full-length = ap length held-fill ∙ fill-length blank (held l) (omega (arith, held-length))
 
   pub held-full : 8 ≤ l .count → l .entries ≡ held l
-  held-full h = held-fill ∙ fill-full blank (held l) (omega (arith, held-length, p .few))
+  held-full h = held-fill ∙ fill-full blank (held l) (omega (arith, held-length, p .within))
 
   pub set-packed : (k : ℕ) (e : Server) → k < l .count
       → _≡_ {A = ServerList} (record { entries = set (l .entries) k e; count = l .count; clock = l .clock }) (packed (l .clock) (replaceAt k e (held l)))

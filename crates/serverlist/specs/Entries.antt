@@ -80,6 +80,10 @@ module _ {E : Type 0} where
   abbrev pub unmarked : E → Marked E
   unmarked e = record { item = e; own = false }
 
+  -- The entries without their marks.
+  abbrev pub items : List (Marked E) → List E
+  items l = map (λ m. m .item) l
+
   -- The place of an insertion: behind those which this option inserted and that still stand, ahead of all others.
   unfoldable pub inserted : Marked E → List (Marked E) → List (Marked E)
   inserted m [] = m ∷ []
@@ -106,4 +110,4 @@ module _ {K X E : Type 0} (kind : Kind K X E) where
 
   -- One option: its keys from the first to the last.
   unfoldable pub namedAll : Bool → X → List K → List E → List E
-  namedAll withdraws x keys l = map (λ m. m .item) (foldl (named withdraws x) (map unmarked l) keys)
+  namedAll withdraws x keys l = items (foldl (named withdraws x) (map unmarked l) keys)

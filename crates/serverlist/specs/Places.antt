@@ -44,7 +44,7 @@ earlierOf c e at = cond (leb (c .expiry .0) (e .expiry .0)) c (record { at = at;
 
 -- The list has its entries in its places, the others blank.
 pub record InPlaces (list : ServerList) : Type 0 where
-  pub few : list .count ≤ 8
+  pub within : list .count ≤ places
   pub packs : list ≡ packed (list .clock) (held list)
 
 -- The list at a new clock, without the entries that expired before it; what has a count above eight stays as it is.

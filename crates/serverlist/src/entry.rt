@@ -1,4 +1,4 @@
-// One entry of the list: what it is about, and whether it has expired.
+// One entry of the list: what it is about, and when it expires.
 use crate::Address6;
 use crate::Server;
 use clock::Moment;
@@ -15,9 +15,16 @@ pub fn is_about(e: Server, a: Address6) -> bool
     octets::compare::same(&a.octets, &b.octets)
 }
 
+// When an entry expires.
+pub fn expiry_of(e: Server) -> Moment
+    ensures { λ r. ⌜ r ≡ expires e ⌝ }
+{
+    e.expiry
+}
+
 // Whether an entry has expired at a clock: at its expiry it has not.
 pub(crate) fn is_expired(e: Server, clock: Moment) -> bool
     ensures { λ r. ⌜ r ≡ isPast (expires e) clock ⌝ }
 {
-    clock::is_past(e.expiry, clock)
+    clock::is_past(expiry_of(e), clock)
 }

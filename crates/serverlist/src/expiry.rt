@@ -1,5 +1,6 @@
 // The list at a new clock: entries that expired before it go.
 use crate::Address6;
+use crate::PLACES;
 use crate::Server;
 use crate::ServerList;
 use crate::entry;
@@ -117,7 +118,7 @@ fn at_clock(l: ServerList, clock: Moment) -> ServerList
 pub fn without_expired(l: ServerList, clock: Moment) -> ServerList
     ensures { λ r. ⌜ r ≡ atClock clock l ⌝ }
 {
-    if 8 < l.count {
+    if PLACES < l.count {
         return l;
     }
     if is_any_gone(l, clock) {

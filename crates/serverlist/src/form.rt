@@ -1,4 +1,5 @@
 // What a list and a clock must be for a call not to be refused.
+use crate::PLACES;
 use crate::ServerList;
 use crate::entry;
 use clock::Moment;
@@ -41,7 +42,7 @@ fn is_orderly(l: ServerList) -> bool
 pub fn is_sound(l: ServerList) -> bool
     ensures { λ r. ⌜ r ≡ isSound l ⌝ }
 {
-    if 8 < l.count {
+    if PLACES < l.count {
         return false;
     }
     if !clock::is_moment(l.clock) {

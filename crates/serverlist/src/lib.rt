@@ -10,6 +10,9 @@ ghost use mathlib.Core.Path.{_≡_};
 ghost use mathlib.Core.List.{[]};
 ghost use Rattle.serverlist.specs.Servers.{packed};
 
+// How many places a list has.
+pub const PLACES: usize = 8;
+
 // An IPv6 address.
 #[repr(C)]
 pub struct Address6 {
@@ -27,7 +30,7 @@ pub struct Server {
 // looked at, and are zero in a list that a call made.
 #[repr(C)]
 pub struct ServerList {
-    pub entries: [Server; 8],
+    pub entries: [Server; PLACES],
     pub count: usize,
     pub clock: Moment,
 }
@@ -41,7 +44,7 @@ pub fn empty(clock: Moment) -> ServerList
         expiry: Moment(0),
     };
     ServerList {
-        entries: [blank; 8],
+        entries: [blank; PLACES],
         count: 0,
         clock: clock,
     }

@@ -1,70 +1,63 @@
 // Reads one option area from standard input, as raw octets, applies it at clock 0 to a list without
-// servers, and prints the servers; or the refusal.
-use clock::Moment;
+// servers, and prints the servers, or the refusal. docs/PROGRAMS.md says what it reads and prints.
+use libc::STDERR_FILENO;
 use libc::STDIN_FILENO;
 use libc::STDOUT_FILENO;
-use serverlist::Server;
-use serverlist::ServerList;
+ghost use mathlib.Core.Path.{_≡_};
+ghost use Prim.Native.Nat.{_≤_};
+ghost use lib.ListN.{length, take};
 
-// An address: 32 hexadecimal digits.
-fn print_octets(octets: [u8; 16]) {
-    let mut i: usize = 0;
-    while i < 16 {
-        io::print_hex(STDOUT_FILENO, octets[i] as u64, 2);
-        i += 1;
-    }
+// What came of reading: how many octets there are, and whether a read failed.
+pub(crate) struct Input {
+    pub count: usize,
+    pub failed: bool,
 }
 
-// An expiry in seconds, or never.
-fn print_expiry(expiry: Moment) {
-    if expiry.0 == clock::NEVER {
-        io::write_all(STDOUT_FILENO, b"never");
-        return;
-    }
-    io::print_decimal(STDOUT_FILENO, expiry.0);
-}
-
-// A server's line.
-fn print_server(e: Server) {
-    let a = e.address;
-    let o = a.octets;
-    print_octets(o);
-    io::write_all(STDOUT_FILENO, b" ");
-    print_expiry(e.expiry);
-    io::write_all(STDOUT_FILENO, b"\n");
-}
-
-// The line with the count, then a line for each server.
-fn print_servers(l: ServerList) {
-    let n = l.count;
-    io::write_all(STDOUT_FILENO, b"servers ");
-    io::print_decimal(STDOUT_FILENO, n as u64);
-    io::write_all(STDOUT_FILENO, b"\n");
-    let mut i: usize = 0;
-    while i < 8 {
-        if i < n {
-            let e = l.entries[i];
-            print_server(e);
+// Reads until the buffer is full, the input ends or a read fails.
+fn read_input(buf: &mut [u8]) -> Input
+    ensures { λ r. ⌜ (r .count ≤ length (now (buf .exit))) × (r .count ≡ length (take (r .count) (now (buf .exit)))) ⌝ }
+{
+    let mut n: usize = 0;
+    while n < buf.len() {
+        let got = libc::read(STDIN_FILENO, &mut buf[n..]);
+        if got < 0 {
+            return Input {
+                count: n,
+                failed: true,
+            };
         }
-        i += 1;
+        let more = io::count(got, &buf[n..]);
+        if more == 0 {
+            return Input {
+                count: n,
+                failed: false,
+            };
+        }
+        n += more;
+    }
+    Input {
+        count: n,
+        failed: false,
     }
 }
 
-fn print_refusal(refusal: u32) {
-    io::write_all(STDOUT_FILENO, b"refused ");
-    io::print_decimal(STDOUT_FILENO, refusal as u64);
-    io::write_all(STDOUT_FILENO, b"\n");
+// The lines for an area, on standard output.
+fn print_area(area: &[u8]) -> bool {
+    let mut lines = [0u8; serverlines::MOST];
+    let n = serverlines::put_area(&mut lines, area);
+    io::write_all(STDOUT_FILENO, &lines[..n])
 }
 
 fn main() {
     // One octet more than an area may have: of a longer input that much is enough for its refusal.
-    let mut buf = [0u8; 1501];
-    let n = io::read_full(STDIN_FILENO, &mut buf);
-    let answer = rdnss::jespurla_server_list(serverlist::empty(Moment(0)), Moment(0), &buf[..n]);
-    let refusal = answer.refusal;
-    if refusal != 0 {
-        print_refusal(refusal);
+    let mut buf = [0u8; rdnss::area::MOST + 1];
+    let input = read_input(&mut buf);
+    if input.failed {
+        io::write_all(STDERR_FILENO, b"servers: error reading standard input\n");
         return;
     }
-    print_servers(answer.list);
+    let n = input.count;
+    if !print_area(&buf[..n]) {
+        io::write_all(STDERR_FILENO, b"servers: error writing standard output\n");
+    }
 }

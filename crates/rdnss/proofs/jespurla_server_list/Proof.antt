@@ -5,8 +5,9 @@ use Rattle.serverlist.specs.Servers.{held, packed, unexpired, isSound, isTimely
 use Rattle.serverlist.specs.declared.ServerList.{ServerList}
 use Rattle.serverlist.proofs.PackLaws.{of-clock, of-held, in-places}
 use Rattle.serverlist.proofs.FormLaws.{sound-count, unexpired-fits, at-clock-fits}
+use Rattle.rdnss.specs.Area.{isArea}
 use Rattle.rdnss.specs.ServerList.{applied, answer}
-use Rattle.rdnss.proofs.CallLaws.{refused-31, refused-15, refused-16, accepted, area-long, area-short}
+use Rattle.rdnss.proofs.CallLaws.{refused-31, refused-15, refused-16, accepted, area-whole}
 use borrow.Author.Needs.{needs}
 use Rattle.rdnss.proofs.jespurla_server_list.Statement.{statement}
 use Rattle.rdnss.proofs.jespurla_server_list.Tie as tie
@@ -17,13 +18,18 @@ sound c = sym (c .before .is-sound .ensures) ∙ not-false _ (c .if1 .left)
 timely : (c : tie.Else2) → isTimely (c .before .before .before .before .before .args .list) (c .before .before .before .before .before .args .clock) ≡ true
 timely c = sym (c .before .is-timely .ensures) ∙ not-false _ (c .if2 .left)
 
+-- the area is one
+area : (c : tie.Else3) → isArea (c .before .before .before .before .before .before .before .args .area .now) ≡ true
+area c = sym (c .before .is-area .ensures) ∙ not-false _ (c .if3 .left)
+
 -- the list without what expired
 unexpiring : (c : tie.After-without-expired) →
-    let s = c .before .before .before .before .before .before .before .args in
+    let s = c .before .before .before .before .before .before .before .before .args in
     c .without-expired .result ≡ packed (s .clock) (unexpired (s .clock) (held (s .list)))
 unexpiring c =
-    let s = c .before .before .before .before .before .before .before .args in
-    c .without-expired .ensures ∙ at-clock-fits (s .list) (s .clock) (sound-count (s .list) (sound (c .before .before .before .before)))
+    let e = c .before .before .before .before .before in
+    let s = e .before .before .before .args in
+    c .without-expired .ensures ∙ at-clock-fits (s .list) (s .clock) (sound-count (s .list) (sound e))
 
 is-sound-requires : tie.Need-is-sound-requires
 is-sound-requires c κs = search needs
@@ -47,41 +53,40 @@ returns-2 c =
     let s = c .before .before .before .before .before .before .args in
     c .refused2 .ensures ∙ refused-15 (s .list) (s .clock) (s .area .now) (sound (c .before .before .before)) (sym (c .before .before .is-timely .ensures) ∙ not-true _ (c .before .if2 .taken))
 
+is-area-requires : tie.Need-is-area-requires
+is-area-requires c κs = search needs
+
 refused-requires-3 : tie.Need-refused-requires-3
 refused-requires-3 c κs = search needs
 
 returns-3 : tie.Need-returns-3
 returns-3 c =
-    let s = c .before .before .before .before .before .before .before .args in
-    c .refused3 .ensures ∙ refused-16 (s .list) (s .clock) (s .area .now) (sound (c .before .before .before .before)) (timely (c .before .before)) (area-long (s .area .now) (c .before .if3 .taken))
+    let t = c .before .before .before in
+    let e = t .before .before in
+    let s = e .before .before .before .args in
+    c .refused3 .ensures ∙ refused-16 (s .list) (s .clock) (s .area .now) (sound e) (timely t) (sym (c .before .before .is-area .ensures) ∙ not-true _ (c .before .if3 .taken))
 
 without-expired-requires : tie.Need-without-expired-requires
 without-expired-requires c κs = search needs
 
 apply-all-requires : tie.Need-apply-all-requires
 apply-all-requires c κs =
-    let s = c .before .before .before .before .before .before .before .args in
-    in-places (s .clock) (unexpired (s .clock) (held (s .list))) (unexpiring c) (unexpired-fits (s .list) (s .clock) (sound-count (s .list) (sound (c .before .before .before .before))))
-
-refused-requires-4 : tie.Need-refused-requires-4
-refused-requires-4 c κs = search needs
+    let e = c .before .before .before .before .before in
+    let s = e .before .before .before .args in (
+      in-places (s .clock) (unexpired (s .clock) (held (s .list))) (unexpiring c) (unexpired-fits (s .list) (s .clock) (sound-count (s .list) (sound e))),
+      area-whole (s .area .now) (area (c .before)),
+    )
 
 returns-4 : tie.Need-returns-4
 returns-4 c =
-    let s = c .before .before .before .before .before .before .before .before .before .before .before .args in
-    let w = sym (c .before .before .before .apply-all .ensures .whole) ∙ not-true _ (c .before .if4 .taken) in
-    c .refused4 .ensures ∙ refused-16 (s .list) (s .clock) (s .area .now) (sound (c .before .before .before .before .before .before .before .before)) (timely (c .before .before .before .before .before .before)) (area-short (s .area .now) (c .before .before .before .before .before .if3 .left) ∙ w)
-
-returns-5 : tie.Need-returns-5
-returns-5 c =
-    let s = c .before .before .before .before .before .before .before .before .before .before .before .args in
-    let v = s .area .now in
-    let a = c .before .before .before .apply-all .ensures in
-    let t = not-false _ (c .before .if4 .left) in
+    let a = c .before .before in
+    let t = a .before .before in
+    let e = t .before .before in
+    let s = e .before .before .before .args in
     let u = unexpired (s .clock) (held (s .list)) in
-    let h = unexpiring (c .before .before .before .before) in
-    let r : c .before .before .before .apply-all .result .list ≡ packed (s .clock) (applied (s .clock) v (held (s .list))) = a .applied t ∙ rw (of-clock (s .clock) u h, of-held (s .clock) u h) in
-    ap (λ (l : ServerList). answer 0 l) r ∙ accepted (s .list) (s .clock) v (sound (c .before .before .before .before .before .before .before .before)) (timely (c .before .before .before .before .before .before)) (area-short v (c .before .before .before .before .before .if3 .left) ∙ sym (a .whole) ∙ t)
+    let h = unexpiring (c .before) in
+    let r : c .apply-all .result ≡ packed (s .clock) (applied (s .clock) (s .area .now) (held (s .list))) = c .apply-all .ensures .applied ∙ rw (of-clock (s .clock) u h, of-held (s .clock) u h) in
+    ap (λ (l : ServerList). answer 0 l) r ∙ accepted (s .list) (s .clock) (s .area .now) (sound e) (timely t) (area a)
 
 pub jespurla-server-list-spec : {M : Type 1} → statement M
 jespurla-server-list-spec =
@@ -93,10 +98,9 @@ jespurla-server-list-spec =
     is-timely-requires
     refused-requires-2
     returns-2
+    is-area-requires
     refused-requires-3
     returns-3
     without-expired-requires
     apply-all-requires
-    refused-requires-4
-    returns-4
-    returns-5)
+    returns-4)

@@ -60,7 +60,7 @@ returns-2 c =
 replace-requires : tie.Need-replace-requires
 replace-requires c κs =
     let s = c .before .before .before .before .before in
-    (s .pre .list, omega (arith, s .pre .list .few), c .if2 .left, omega (arith, s .pre .list .few, evicts (c .before), evict-within (s .args .p) (s .pre) (omega arith)))
+    (s .pre .list, omega (arith, s .pre .list .within), c .if2 .left, omega (arith, s .pre .list .within, evicts (c .before), evict-within (s .args .p) (s .pre) (omega arith)))
 
 add-t15 : tie.Need-add-t15
 add-t15 c = search needs

@@ -42,19 +42,19 @@ add-j : tie.Need-add-j Inv-loop μ-loop
 add-j c = search needs
 
 find-requires : tie.Need-find-requires Inv-loop μ-loop
-find-requires c κs = c .before .before .loop .inv .1 .list .few
+find-requires c κs = c .before .before .loop .inv .1 .list .within
 
 mul-e : tie.Need-mul-e Inv-loop μ-loop
-mul-e c = omega (arith, c .before .before .before .before .loop .inv .1 .list .few)
+mul-e c = omega (arith, c .before .before .before .before .loop .inv .1 .list .within)
 
 element-copy-out-e : tie.Need-element-copy-out-e Inv-loop μ-loop
 element-copy-out-e c = omega (arith, full-length (c .before .before .before .before .loop .inv .1 .list))
 
 mul-t17 : tie.Need-mul-t17 Inv-loop μ-loop
-mul-t17 c = omega (arith, c .before .before .before .before .before .before .loop .inv .1 .list .few)
+mul-t17 c = omega (arith, c .before .before .before .before .before .before .loop .inv .1 .list .within)
 
 element-set-from-m : tie.Need-element-set-from-m Inv-loop μ-loop
-element-set-from-m c = omega (arith, full-length (c .before .before .before .before .before .before .loop .inv .1 .list), c .before .before .before .before .before .before .loop .inv .1 .list .few)
+element-set-from-m c = omega (arith, full-length (c .before .before .before .before .before .before .loop .inv .1 .list), c .before .before .before .before .before .before .loop .inv .1 .list .within)
 
 loop-less : tie.Need-loop-less Inv-loop μ-loop
 loop-less c = omega arith
@@ -88,7 +88,7 @@ loop-again c =
     let k = d .find .result in
     let t = c .before .before .if1 .taken in
     again d _ (found (record { list = l .m; at = l .own }) (l .inv .1) (d .before .address-at .result) x k (d .find .ensures) t
-    (set-packed i k _ t ∙ ap (λ (e : Server). packed (l .m .clock) (replaceAt k (servers .renew x e) (held (l .m)))) (held-at (l .m) k _ t (omega (arith, full-length i, i .few)))))
+    (set-packed i k _ t ∙ ap (λ (e : Server). packed (l .m .clock) (replaceAt k (servers .renew x e) (held (l .m)))) (held-at (l .m) k _ t (omega (arith, full-length i, i .within)))))
 
 insert-requires : tie.Need-insert-requires Inv-loop μ-loop
 insert-requires c κs = c .before .before .before .before .loop .inv .1
