@@ -36,7 +36,7 @@ answer-is : (c : Call) → c .result .refusal ≡ 0 → answer (c .clock) (c .ta
 unfolding answer
 answer-is c r =
     ap (λ (k : Asked). answerBy (c .clock) (c .server) (c .query) k (c .table))
-    (asked-is (c .clock) (c .table) (c .server) (c .query) (length (c .buffer)) (sym (ap (λ a. a .refusal) (c .answers)) ∙ r))
+    (asked-is (c .clock) (c .table) (c .server) (c .query) (length (c .buffer)) (sym (ap (λ a. a .refusal) (c .promised .answers)) ∙ r))
 
 -- ---- the leases of a client
 and-both : {a b : Bool} → a ≡ true → b ≡ true → (a && b) ≡ true
@@ -120,8 +120,8 @@ client-id c o r a = answer-is c r ∙ ap (λ (k : Asked). answerBy (c .clock) (c
 pub demand-2 : Demand2
 unfolding hasKey
 demand-2 = record {
-  by-hardware = λ c htype hlen o r a. exactly c (byHardware htype hlen o) (ap (λ x. x .kind) (c .answers) ∙ ap (λ (w : Outcome). told w .kind) (client-hardware c htype hlen o r a));
-  by-client-id = λ c o r a. exactly c (byClientId o) (ap (λ x. x .kind) (c .answers) ∙ ap (λ (w : Outcome). told w .kind) (client-id c o r a));
+  by-hardware = λ c htype hlen o r a. exactly c (byHardware htype hlen o) (ap (λ x. x .kind) (c .promised .answers) ∙ ap (λ (w : Outcome). told w .kind) (client-hardware c htype hlen o r a));
+  by-client-id = λ c o r a. exactly c (byClientId o) (ap (λ x. x .kind) (c .promised .answers) ∙ ap (λ (w : Outcome). told w .kind) (client-id c o r a));
 }
 
 -- ---- kinds of answer: a refusal has the kind 0
@@ -131,23 +131,23 @@ refusal-zero (reply j o) k h e = refl
 
 no-refusal : (c : Call) (k : ℕ) → 0 < k → c .result .kind ≡ k → c .result .refusal ≡ 0
 no-refusal c k h e =
-    ap (λ x. x .refusal) (c .answers) ∙ refusal-zero (answer (c .clock) (c .table) (c .server) (c .query) (length (c .buffer))) k h (sym (ap (λ x. x .kind) (c .answers)) ∙ e)
+    ap (λ x. x .refusal) (c .promised .answers) ∙ refusal-zero (answer (c .clock) (c .table) (c .server) (c .query) (length (c .buffer))) k h (sym (ap (λ x. x .kind) (c .promised .answers)) ∙ e)
 
 pub never-unassigned : NeverUnassigned
 never-unassigned c (inl (htype, hlen, o, a)) e =
     kind-not-11 (c .clock) (c .server) (c .query) (leases c (byHardware htype hlen o))
-    (sym (ap (λ (w : Outcome). told w .kind) (client-hardware c htype hlen o (no-refusal c 11 (omega arith) e) a)) ∙ sym (ap (λ x. x .kind) (c .answers)) ∙ e)
+    (sym (ap (λ (w : Outcome). told w .kind) (client-hardware c htype hlen o (no-refusal c 11 (omega arith) e) a)) ∙ sym (ap (λ x. x .kind) (c .promised .answers)) ∙ e)
 never-unassigned c (inr (o, a)) e =
     kind-not-11 (c .clock) (c .server) (c .query) (leases c (byClientId o))
-    (sym (ap (λ (w : Outcome). told w .kind) (client-id c o (no-refusal c 11 (omega arith) e) a)) ∙ sym (ap (λ x. x .kind) (c .answers)) ∙ e)
+    (sym (ap (λ (w : Outcome). told w .kind) (client-id c o (no-refusal c 11 (omega arith) e) a)) ∙ sym (ap (λ x. x .kind) (c .promised .answers)) ∙ e)
 
 pub names-the-best : NamesTheBest
 names-the-best c (inl (htype, hlen, o, a)) e =
     let d = client-hardware c htype hlen o (no-refusal c 13 (omega arith) e) a in
-    subst (Named c) (sym a) (named c (byHardware htype hlen o) (leases c (byHardware htype hlen o)) refl (ap written d) (sym (ap (λ (w : Outcome). told w .kind) d) ∙ sym (ap (λ x. x .kind) (c .answers)) ∙ e))
+    subst (Named c) (sym a) (named c (byHardware htype hlen o) (leases c (byHardware htype hlen o)) refl (ap written d) (sym (ap (λ (w : Outcome). told w .kind) d) ∙ sym (ap (λ x. x .kind) (c .promised .answers)) ∙ e))
 names-the-best c (inr (o, a)) e =
     let d = client-id c o (no-refusal c 13 (omega arith) e) a in
-    subst (Named c) (sym a) (named c (byClientId o) (leases c (byClientId o)) refl (ap written d) (sym (ap (λ (w : Outcome). told w .kind) d) ∙ sym (ap (λ x. x .kind) (c .answers)) ∙ e))
+    subst (Named c) (sym a) (named c (byClientId o) (leases c (byClientId o)) refl (ap written d) (sym (ap (λ (w : Outcome). told w .kind) d) ∙ sym (ap (λ x. x .kind) (c .promised .answers)) ∙ e))
 
 -- ---- option 92
 rises : (t : List Lease) → tableFits t ≡ true → risesFrom 0 t ≡ true
@@ -157,7 +157,7 @@ rises t e = and-right (leb (length t) 256) (risesFrom 0 t) e
 table-fits : (c : Call) → c .result .refusal ≡ 0 → tableFits (c .table) ≡ true
 unfolding answer askedOf answerBy
 table-fits c r =
-    let z : told (answer (c .clock) (c .table) (c .server) (c .query) (length (c .buffer))) .refusal ≡ 0 = sym (ap (λ a. a .refusal) (c .answers)) ∙ r in
+    let z : told (answer (c .clock) (c .table) (c .server) (c .query) (length (c .buffer))) .refusal ≡ 0 = sym (ap (λ a. a .refusal) (c .promised .answers)) ∙ r in
     cases (not (isMoment (c .clock))) (λ e. absurd (let y : _≡_ {A = ℕ} 15 0 = rw e at z in omega arith))
     (λ e. cases (tableFits (c .table)) (λ f. f) (λ f. absurd (let y : _≡_ {A = ℕ} 9 0 = rw (e, f) at z in omega arith)))
 
@@ -189,11 +189,11 @@ pub lists-them : ListsThem
 lists-them c (inl (htype, hlen, o, a)) e =
     let r = no-refusal c 13 (omega arith) e in
     let d = client-hardware c htype hlen o r a in
-    subst (Listed c) (sym a) (listed c (byHardware htype hlen o) (table-fits c r) d (sym (ap (λ (w : Outcome). told w .kind) d) ∙ sym (ap (λ x. x .kind) (c .answers)) ∙ e))
+    subst (Listed c) (sym a) (listed c (byHardware htype hlen o) (table-fits c r) d (sym (ap (λ (w : Outcome). told w .kind) d) ∙ sym (ap (λ x. x .kind) (c .promised .answers)) ∙ e))
 lists-them c (inr (o, a)) e =
     let r = no-refusal c 13 (omega arith) e in
     let d = client-id c o r a in
-    subst (Listed c) (sym a) (listed c (byClientId o) (table-fits c r) d (sym (ap (λ (w : Outcome). told w .kind) d) ∙ sym (ap (λ x. x .kind) (c .answers)) ∙ e))
+    subst (Listed c) (sym a) (listed c (byClientId o) (table-fits c r) d (sym (ap (λ (w : Outcome). told w .kind) d) ∙ sym (ap (λ x. x .kind) (c .promised .answers)) ∙ e))
 
 -- ---- every reply fits
 formed-lengths : (x : Lease) → wellFormed x ≡ true → (x .idlen ≤ 64) × (x .relaylen ≤ 64)
@@ -238,4 +238,4 @@ answer-fits clock t server q room =
     (λ e. cases (tableFits t) (λ f. asked-fits clock server q t (rises t f) (askedOf clock t q room)) (λ f. rw (e, f) (omega arith)))
 
 pub fits : Fits
-fits c = subst (λ n. n ≤ 648) (sym (ap (λ x. x .length) (c .answers))) (answer-fits (c .clock) (c .table) (c .server) (c .query) (length (c .buffer)))
+fits c = subst (λ n. n ≤ 648) (sym (ap (λ x. x .length) (c .promised .answers))) (answer-fits (c .clock) (c .table) (c .server) (c .query) (length (c .buffer)))

@@ -6,15 +6,15 @@ use mathlib.Core.List.{List, [], _∷_, map}
 use mathlib.Core.Logic.{_⊎_}
 use lib.ListN.{length, getD, take}
 use Rattle.clock.specs.declared.Moment.{Moment}
-use Rattle.octets.specs.Write.{laid}
 use Rattle.lease.specs.declared.Lease.{Lease}
 use Rattle.lease.specs.Lease.{noLease, activeAt, hasHardware, hasClientId, rankOf, ranksBefore}
 use Rattle.leasepacket.specs.Query.{Asked, byHardware, byClientId, asking}
 use Rattle.leasereply.specs.Reply.{activeReply}
 use Rattle.leasequery.specs.declared.LeaseAnswer.{LeaseAnswer}
-use Rattle.leasequery.specs.Answer.{answer, told, written, hasKey}
+use Rattle.leasequery.specs.Answer.{answer, written, hasKey}
+use Rattle.leasequery.specs.Promise.{LeasePromise}
 
--- A call and its result: what the promise of `jespurla_lease_query` says of them.
+-- A call, its result and what the buffer holds then. The promise of `jespurla_lease_query` is all that is known of them.
 pub record Call : Type 0 where
   pub clock : Moment
   pub table : List Lease
@@ -23,8 +23,7 @@ pub record Call : Type 0 where
   pub buffer : List ℕ
   pub result : LeaseAnswer
   pub after : List ℕ
-  pub answers : result ≡ told (answer clock table server query (length buffer))
-  pub writes : after ≡ laid (written (answer clock table server query (length buffer))) buffer
+  pub promised : LeasePromise clock table server query buffer result after
 
 -- The lease at a place of the table is active at the call's clock and passes a test.
 pub record ActiveAt (c : Call) (test : Lease → Bool) (i : ℕ) : Type 0 where

@@ -7,10 +7,8 @@ use lease::key;
 use leasereply::reply;
 use leasetable::look::Found;
 ghost use mathlib.Core.Path.{_≡_};
-ghost use lib.ListN.{length};
 ghost use Prim.Native.Nat.{_≤_};
-ghost use Rattle.octets.specs.Write.{laid};
-ghost use Rattle.leasequery.specs.Answer.{told, written};
+ghost use Rattle.leasequery.specs.Promise.{Gives};
 ghost use Rattle.leasequery.specs.Stages.{otherOf, activeOf, concluded};
 
 // A reply of a length was written.
@@ -27,7 +25,7 @@ fn replied(kind: u32, n: usize) -> LeaseAnswer
 
 // LEASEUNASSIGNED or LEASEUNKNOWN.
 fn other(kind: u8, server: u32, query: &[u8], buf: &mut [u8]) -> LeaseAnswer
-    ensures { λ r. ⌜ (r ≡ told (otherOf kind server (now (query .entry)) (now (buf .entry)))) × (now (buf .exit) ≡ laid (written (otherOf kind server (now (query .entry)) (now (buf .entry)))) (now (buf .entry))) ⌝ }
+    ensures { λ r. ⌜ Gives (otherOf kind server (now (query .entry)) (now (buf .entry))) (now (buf .entry)) r (now (buf .exit)) ⌝ }
 {
     let n = reply::write_other(buf, kind, server, query);
     replied(kind as u32, n)
@@ -35,7 +33,7 @@ fn other(kind: u8, server: u32, query: &[u8], buf: &mut [u8]) -> LeaseAnswer
 
 // LEASEACTIVE, with the addresses of the first n ranks where they are two or more.
 fn active(f: Found, n: usize, server: u32, query: &[u8], buf: &mut [u8]) -> LeaseAnswer
-    ensures { λ r. ⌜ (r ≡ told (activeOf f n server (now (query .entry)) (now (buf .entry)))) × (now (buf .exit) ≡ laid (written (activeOf f n server (now (query .entry)) (now (buf .entry)))) (now (buf .entry))) ⌝ }
+    ensures { λ r. ⌜ Gives (activeOf f n server (now (query .entry)) (now (buf .entry))) (now (buf .entry)) r (now (buf .exit)) ⌝ }
 {
     let clock = f.clock;
     let best = f.best;
@@ -46,7 +44,7 @@ fn active(f: Found, n: usize, server: u32, query: &[u8], buf: &mut [u8]) -> Leas
 
 // The whole answer.
 pub fn conclude(f: Found, server: u32, query: &[u8], buf: &mut [u8]) -> LeaseAnswer
-    ensures { λ r. ⌜ (r ≡ told (concluded f server (now (query .entry)) (now (buf .entry)))) × (now (buf .exit) ≡ laid (written (concluded f server (now (query .entry)) (now (buf .entry)))) (now (buf .entry))) ⌝ }
+    ensures { λ r. ⌜ Gives (concluded f server (now (query .entry)) (now (buf .entry))) (now (buf .entry)) r (now (buf .exit)) ⌝ }
 {
     if f.refusal != 0 {
         return LeaseAnswer {

@@ -8,7 +8,7 @@ use Rattle.leasequery.proofs.conclude.conclude.Tie as tie
 returns : tie.Need-returns
 returns c =
     let s = c .before .before .before .before .args in
-    rw (con-refused (s .f) (s .server) (s .query .now) (s .buf .now) (c .if1 .taken)) (refl, sym (laid-nothing (s .buf .now)))
+    rw (con-refused (s .f) (s .server) (s .query .now) (s .buf .now) (c .if1 .taken)) (record { answers = refl; writes = sym (laid-nothing (s .buf .now)) })
 
 other-requires : tie.Need-other-requires
 other-requires c κs = search needs
