@@ -13,7 +13,7 @@ use Rattle.clock.specs.declared.Moment.{Moment}
 use Rattle.clock.specs.Clock.{isMoment}
 use Rattle.lease.specs.declared.Lease.{Lease}
 use Rattle.lease.specs.Lease.{noLease, activeAt, wellFormed, lengthsFit, momentsFit, hardwareFits}
-use Rattle.leasepacket.specs.Query.{Asked, refused, byAddress, byHardware, byClientId, asking}
+use Rattle.leasepacket.specs.Query.{Asked, refused, byAddress, byHardware, byClientId, firstOf, asking}
 use Rattle.leasetable.specs.Table.{tableFits, risesFrom, those, ranked}
 use Rattle.octets.specs.Write.{laid}
 use Rattle.leasereply.specs.Reply.{otherReply, activeReply}
@@ -26,7 +26,7 @@ use borrow.Author.Tests.{leb-true}
 
 -- ---- what was asked, where there is no refusal
 asked-is : (clock : Moment) (t : List Lease) (server : ℕ) (q : List ℕ) (room : ℕ) → told (answer clock t server q room) .refusal ≡ 0 → askedOf clock t q room ≡ asking q
-unfolding answer askedOf answerBy
+unfolding answer askedOf answerBy firstOf
 asked-is clock t server q room r =
     cases (not (isMoment clock)) (λ e. absurd (let z : _≡_ {A = ℕ} 15 0 = rw e at r in omega arith))
     (λ e. cases (not (tableFits t)) (λ f. absurd (let z : _≡_ {A = ℕ} 9 0 = rw (e, f) at r in omega arith))
@@ -126,7 +126,7 @@ unfolding tableFits
 rises t e = and-right (leb (length t) 256) (risesFrom 0 t) e
 
 table-fits : (c : Call) → c .result .refusal ≡ 0 → tableFits (c .table) ≡ true
-unfolding answer askedOf answerBy
+unfolding answer askedOf answerBy firstOf
 table-fits c r =
     let z : told (answer (c .clock) (c .table) (c .server) (c .query) (length (c .buffer))) .refusal ≡ 0 = sym (ap (λ a. a .refusal) (c .promised .answers)) ∙ r in
     cases (not (isMoment (c .clock))) (λ e. absurd (let y : _≡_ {A = ℕ} 15 0 = rw e at z in omega arith))
@@ -237,7 +237,7 @@ module _ (clock : Moment) (server : ℕ) (q : List ℕ) (t : List Lease) (r : ri
   asked-fits (byClientId o) = client-fits (λ x. activeAt clock x && hasKey (byClientId o) x) (ranked (leasesOf clock server q (byClientId o) t)) (ranked-stand (λ x. activeAt clock x && hasKey (byClientId o) x) t)
 
 answer-fits : (clock : Moment) (t : List Lease) (server : ℕ) (q : List ℕ) (room : ℕ) → told (answer clock t server q room) .length ≤ 648
-unfolding answer askedOf answerBy
+unfolding answer askedOf answerBy firstOf
 answer-fits clock t server q room =
     cases (not (isMoment clock)) (λ e. rw e (omega arith))
     (λ e. cases (tableFits t) (λ f. asked-fits clock server q t (rises t f) (askedOf clock t q room)) (λ f. rw (e, f) (omega arith)))

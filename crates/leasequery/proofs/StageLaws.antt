@@ -10,7 +10,7 @@ use Rattle.octets.specs.Write.{laid, Laid}
 use Rattle.octets.proofs.WriteLaws.{written, put-front, laid-nothing}
 use Rattle.lease.specs.Lease.{activeAt}
 use Rattle.lease.proofs.ListLaws.{take-min}
-use Rattle.leasepacket.specs.Query.{part}
+use Rattle.leasepacket.specs.Packet.{part}
 use Rattle.leasetable.specs.declared.look.Found.{Found}
 use Rattle.leasequery.specs.Answer.{refusal}
 use Rattle.leasequery.specs.Stages.{padded, otherOf, activeOf, concluded}

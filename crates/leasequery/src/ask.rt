@@ -11,7 +11,8 @@ ghost use mathlib.Core.Path.{_≡_};
 ghost use mathlib.Core.Bool.{_&&_};
 ghost use lib.Dec.{leb};
 ghost use Prim.Native.Nat.{_-_, min};
-ghost use Rattle.leasepacket.specs.Query.{part, asked};
+ghost use Rattle.leasepacket.specs.Packet.{part};
+ghost use Rattle.leasepacket.specs.Reading.{asked};
 ghost use Rattle.leasequery.specs.Stages.{padded, keyFor, idKey, refusalIn, noCandidates, askedAt};
 
 // How many of n octets from a place on there are.

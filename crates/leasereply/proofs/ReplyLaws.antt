@@ -19,7 +19,7 @@ use Rattle.octets.proofs.NumberLaws.{length-big-endian}
 use Rattle.octets.proofs.WriteLaws.{nothing, more, put-front}
 use Rattle.lease.specs.declared.Lease.{Lease}
 use Rattle.lease.specs.declared.Rank.{Rank}
-use Rattle.leasepacket.specs.Query.{part}
+use Rattle.leasepacket.specs.Packet.{part}
 use Rattle.leasereply.specs.Reply.{fixed, option, optional, ofLease, flat, otherReply, activeReply, addressesOf, listed, fitting}
 
 -- ---- options that may be left out

@@ -9,7 +9,7 @@ use Rattle.clock.specs.Clock.{secondsLeft, secondsSince}
 use Rattle.octets.specs.Number.{bigEndian}
 use Rattle.lease.specs.declared.Lease.{Lease}
 use Rattle.lease.specs.declared.Rank.{Rank}
-use Rattle.leasepacket.specs.Query.{part, cookie}
+use Rattle.leasepacket.specs.Packet.{part, cookie}
 
 -- op 2; xid, flags and giaddr copied from the query; the other fields zero, but for those given; the cookie.
 unfoldable pub fixed : List ℕ → ℕ → ℕ → List ℕ → List ℕ → List ℕ
@@ -49,7 +49,7 @@ activeReply clock server query x addresses =
     fixed query (x .htype) (x .hlen) (bigEndian 4 (x .address)) (take 16 (x .chaddr))
     ++ option 53 (13 ∷ []) ++ option 54 (bigEndian 4 server) ++ ofLease clock x ++ optional 92 (flat addresses) ++ (255 ∷ [])
 
--- ---- for the contracts of inner functions; no public promise cites these
+-- ---- for the contracts of functions that are not exported
 
 -- The addresses of ranks.
 abbrev pub addressesOf : List Rank → List ℕ

@@ -4,7 +4,7 @@ ghost use mathlib.Core.List.{[], _∷_, _++_};
 ghost use lib.ListN.{length, replicate};
 ghost use Prim.Native.Nat.{_≤_};
 ghost use Rattle.octets.specs.Write.{WroteIf};
-ghost use Rattle.leasepacket.specs.Query.{part, cookie};
+ghost use Rattle.leasepacket.specs.Packet.{part, cookie};
 ghost use Rattle.leasereply.specs.Reply.{fixed};
 
 // op, htype, hlen, hops, xid, secs, flags.
