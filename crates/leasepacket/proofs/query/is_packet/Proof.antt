@@ -1,3 +1,4 @@
+use lib.ListN.{length}
 use borrow.Author.Tests.{le-leb, lt-leb}
 use Rattle.octets.specs.Number.{numberAt}
 use Rattle.leasepacket.specs.Packet.{isPacket}
@@ -7,7 +8,7 @@ use Rattle.leasepacket.proofs.query.is_packet.Tie as tie
 
 returns : tie.Need-returns
 unfolding isPacket
-returns c = simp (lt-leb _ _ (c .if1 .taken))
+returns c = simp (lt-leb 240 (length (c .before .before .args .p .now)) (c .if1 .taken))
 
 returns-2 : tie.Need-returns-2
 unfolding isPacket

@@ -59,19 +59,4 @@ returns-5 c =
 
 pub conclude-spec : {M : Type 1} → statement M
 conclude-spec =
-    tie.close
-    (tie.spec
-    returns
-    other-requires
-    same-length
-    returns-2
-    active-requires
-    same-length-2
-    returns-3
-    is-active-requires
-    active-requires-2
-    same-length-3
-    returns-4
-    other-requires-2
-    same-length-4
-    returns-5)
+    tie.close (tie.spec returns other-requires same-length returns-2 active-requires same-length-2 returns-3 is-active-requires active-requires-2 same-length-3 returns-4 other-requires-2 same-length-4 returns-5)
