@@ -3,6 +3,7 @@ use clock::Moment;
 use lease::Rank;
 use leasepacket::query;
 use leasepacket::query::Query;
+use leasereply::reply;
 use leasetable::candidates::Candidates;
 use leasetable::client::Key;
 use leasetable::form::Form;
@@ -14,6 +15,9 @@ ghost use Prim.Native.Nat.{_-_, min};
 ghost use Rattle.leasepacket.specs.Packet.{part};
 ghost use Rattle.leasepacket.specs.Reading.{asked};
 ghost use Rattle.leasequery.specs.Stages.{padded, keyFor, idKey, refusalIn, noCandidates, askedAt};
+
+// The most records that a table has.
+const LONGEST_TABLE: usize = 256;
 
 // How many of n octets from a place on there are.
 fn available(len: usize, at: usize, n: usize) -> usize
@@ -127,7 +131,7 @@ fn start(clock: Moment, refusal: u32, key: Key) -> Candidates
 fn does_fit(table: Form, count: usize) -> bool
     ensures { λ r. ⌜ r ≡ (leb count 256 && table .ok) ⌝ }
 {
-    if 256 < count {
+    if LONGEST_TABLE < count {
         return false;
     }
     table.ok
@@ -143,7 +147,7 @@ fn first_refusal(clock: Moment, ok: bool, p: &[u8], room: usize) -> Query
     if !ok {
         return Query::Refused(9);
     }
-    if room < 648 {
+    if room < reply::ROOM {
         return Query::Refused(8);
     }
     query::read(p)

@@ -3,7 +3,8 @@ use crate::LeaseAnswer;
 use clock::Moment;
 use lease::Lease;
 use lease::Rank;
-use lease::key;
+use lease::activity;
+use leasepacket::layout;
 use leasereply::reply;
 use leasetable::look::Found;
 ghost use mathlib.Core.Path.{_≡_};
@@ -39,7 +40,7 @@ fn active(f: Found, n: usize, server: u32, query: &[u8], buf: &mut [u8]) -> Leas
     let best = f.best;
     let ranks = f.ranks;
     let len = reply::write_active(buf, clock, server, query, best, ranks, n);
-    replied(13, len)
+    replied(layout::DHCPLEASEACTIVE as u32, len)
 }
 
 // The whole answer.
@@ -55,14 +56,14 @@ pub fn conclude(f: Found, server: u32, query: &[u8], buf: &mut [u8]) -> LeaseAns
     }
     let best = f.best;
     if best.address == 0 {
-        return other(12, server, query, buf);
+        return other(layout::DHCPLEASEUNKNOWN, server, query, buf);
     }
     if f.kind != 1 {
         return active(f, f.kept, server, query, buf);
     }
     let clock = f.clock;
-    if key::is_active(best, clock) {
+    if activity::is_active(best, clock) {
         return active(f, 0, server, query, buf);
     }
-    other(11, server, query, buf)
+    other(layout::DHCPLEASEUNASSIGNED, server, query, buf)
 }

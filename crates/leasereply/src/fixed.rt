@@ -1,4 +1,5 @@
 // The fixed fields of a reply, 240 octets. All that is copied from the query is copied as octets.
+use leasepacket::layout;
 use octets::write;
 ghost use mathlib.Core.List.{[], _∷_, _++_};
 ghost use lib.ListN.{length, replicate};
@@ -12,7 +13,7 @@ fn put_front(buf: &mut [u8], query: &[u8], htype: u8, hlen: u8) -> usize
     requires { ⌜ 240 ≤ length (now query) ⌝ }
     ensures { λ r. ⌜ WroteIf (now (buf .entry)) 0 ((2 ∷ htype ∷ hlen ∷ 0 ∷ []) ++ part (now (query .entry)) 4 4 ++ replicate 2 0 ++ part (now (query .entry)) 10 2) (now (buf .exit)) r ⌝ }
 {
-    let head = [2, htype, hlen, 0];
+    let head = [layout::BOOTREPLY, htype, hlen, 0];
     let a = write::put_octets(buf, 0, &head);
     let b = write::put_octets(buf, a, &query[4..8]);
     let c = write::put_zeros(buf, b, 2);
