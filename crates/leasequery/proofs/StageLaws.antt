@@ -1,4 +1,4 @@
--- The laws of what the inner functions hand on. Assumes nothing.
+-- The laws of what the functions below the exported call hand on. Assumes nothing.
 use Prim.Native.Nat.{ℕ, _-_, _≤_, _<_, min}
 use mathlib.Core.Path.{_≡_, refl, sym, ap, _∙_}
 use mathlib.Core.List.{List, [], _∷_}

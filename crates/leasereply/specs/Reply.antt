@@ -1,5 +1,6 @@
 -- The octets of a reply. Document 01, "Lease table and queries".
-use Prim.Native.Nat.{ℕ}
+use Prim.Native.Nat.{ℕ, _≤_}
+use mathlib.Core.Path.{_≡_}
 use mathlib.Core.Bool.{cond, _||_}
 use mathlib.Core.List.{List, [], _∷_, _++_, map}
 use lib.Dec.{ltb}
@@ -7,6 +8,7 @@ use lib.ListN.{length, getD, take, replicate}
 use Rattle.clock.specs.declared.Moment.{Moment}
 use Rattle.clock.specs.Clock.{secondsLeft, secondsSince}
 use Rattle.octets.specs.Number.{bigEndian}
+use Rattle.octets.specs.Write.{laid}
 use Rattle.lease.specs.declared.Lease.{Lease}
 use Rattle.lease.specs.declared.Rank.{Rank}
 use Rattle.leasepacket.specs.Packet.{part, cookie}
@@ -62,3 +64,9 @@ listed n ranks = cond (ltb n 2 || ltb 63 n) [] (addressesOf (take n ranks))
 -- What is written: the octets, if query and buffer are long enough.
 abbrev pub fitting : List ℕ → List ℕ → List ℕ → List ℕ
 fitting query buffer octets = cond (ltb (length query) 240 || ltb (length buffer) 648) [] octets
+
+-- What a writer of such octets answers, their number, and what the buffer holds then.
+pub record Wrote (query before octets : List ℕ) (n : ℕ) (after : List ℕ) : Type 0 where
+  pub answers : n ≡ length (fitting query before octets)
+  pub holds : after ≡ laid (fitting query before octets) before
+  pub few : n ≤ 648

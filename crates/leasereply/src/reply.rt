@@ -7,12 +7,11 @@ use lease::Rank;
 use leasepacket::layout;
 use octets::number;
 use octets::write;
-ghost use mathlib.Core.Path.{_≡_};
 ghost use lib.ListN.{length, take};
 ghost use Prim.Native.Nat.{_≤_};
 ghost use Rattle.octets.specs.Number.{bigEndian};
-ghost use Rattle.octets.specs.Write.{laid, WroteIf};
-ghost use Rattle.leasereply.specs.Reply.{fixed, otherReply, activeReply, listed, fitting};
+ghost use Rattle.octets.specs.Write.{WroteIf};
+ghost use Rattle.leasereply.specs.Reply.{fixed, otherReply, activeReply, listed, Wrote};
 
 // The octets that the longest reply has, and that a buffer must have for any.
 pub const ROOM: usize = 648;
@@ -68,7 +67,7 @@ fn put_active(
 
 // The reply to a query that is not about an active lease, if query and buffer are long enough.
 pub fn write_other(buf: &mut [u8], kind: u8, server: u32, query: &[u8]) -> usize
-    ensures { λ r. ⌜ (r ≡ length (fitting (now (query .entry)) (now (buf .entry)) (otherReply kind server (now (query .entry))))) × (now (buf .exit) ≡ laid (fitting (now (query .entry)) (now (buf .entry)) (otherReply kind server (now (query .entry)))) (now (buf .entry))) × (r ≤ 648) ⌝ }
+    ensures { λ r. ⌜ Wrote (now (query .entry)) (now (buf .entry)) (otherReply kind server (now (query .entry))) r (now (buf .exit)) ⌝ }
 {
     if query.len() < layout::OPTIONS {
         return 0;
@@ -89,7 +88,7 @@ pub fn write_active(
     ranks: [Rank; 63],
     n: usize,
 ) -> usize
-    ensures { λ r. ⌜ (r ≡ length (fitting (now (query .entry)) (now (buf .entry)) (activeReply clock server (now (query .entry)) x (listed n ranks)))) × (now (buf .exit) ≡ laid (fitting (now (query .entry)) (now (buf .entry)) (activeReply clock server (now (query .entry)) x (listed n ranks))) (now (buf .entry))) × (r ≤ 648) ⌝ }
+    ensures { λ r. ⌜ Wrote (now (query .entry)) (now (buf .entry)) (activeReply clock server (now (query .entry)) x (listed n ranks)) r (now (buf .exit)) ⌝ }
 {
     if query.len() < layout::OPTIONS {
         return 0;

@@ -18,7 +18,7 @@ same-length c = search needs
 returns : tie.Need-returns
 returns c =
     let w = c .before .before .before .write-active .ensures in
-    record { answers = c .replied .ensures ∙ ap (λ n. record { refusal = 0; kind = 13; length = n }) (w .0); writes = w .1 }
+    record { answers = c .replied .ensures ∙ ap (λ n. record { refusal = 0; kind = 13; length = n }) (w .answers); writes = w .holds }
 
 pub active-spec : {M : Type 1} → statement M
 active-spec = tie.close (tie.spec write-active-requires cast-replied replied-requires same-length returns)
