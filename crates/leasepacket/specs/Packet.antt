@@ -37,12 +37,27 @@ cookie = 99 ∷ 130 ∷ 83 ∷ 99 ∷ []
 abbrev pub optionArea : List ℕ → List ℕ
 optionArea p = drop 240 p
 
--- The codes of the options that a query is read by: message type and client id; and the message type DHCPLEASEQUERY.
+-- The codes of the options that a query is read by, and of those that a reply has besides; and the message type DHCPLEASEQUERY.
 abbrev pub messageType : ℕ
 messageType = 53
 
 abbrev pub clientId : ℕ
 clientId = 61
+
+abbrev pub leaseTime : ℕ
+leaseTime = 51
+
+abbrev pub serverId : ℕ
+serverId = 54
+
+abbrev pub relayInformation : ℕ
+relayInformation = 82
+
+abbrev pub lastTransactionTime : ℕ
+lastTransactionTime = 91
+
+abbrev pub associatedIp : ℕ
+associatedIp = 92
 
 abbrev pub leaseQuery : ℕ
 leaseQuery = 10

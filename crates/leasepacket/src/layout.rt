@@ -1,11 +1,30 @@
 // The layout of a packet (RFC 2131), the codes of options (RFC 2132, 3046, 4388) and the message types
 // of lease queries (RFC 4388).
 
-// Where the client's address stands.
+// Where the fixed fields begin; a field ends where the next one begins.
+pub const OP: usize = 0;
+
+pub const HTYPE: usize = 1;
+
+pub const HLEN: usize = 2;
+
+pub const HOPS: usize = 3;
+
+pub const XID: usize = 4;
+
+pub const SECS: usize = 8;
+
+pub const FLAGS: usize = 10;
+
 pub const CIADDR: usize = 12;
 
-// Where the relay agent's address stands.
+pub const YIADDR: usize = 16;
+
 pub const GIADDR: usize = 24;
+
+pub const CHADDR: usize = 28;
+
+pub const SNAME: usize = 44;
 
 // Where the magic cookie stands.
 pub const MAGIC_COOKIE: usize = 236;

@@ -42,10 +42,10 @@ fn has_hardware_key(p: &[u8]) -> bool
     requires { ⌜ 240 ≤ length (now p) ⌝ }
     ensures { λ r. ⌜ r ≡ hasHardwareKey (now (p .entry)) ⌝ }
 {
-    if is_any_set(&p[1..3]) {
+    if is_any_set(&p[layout::HTYPE..layout::HOPS]) {
         return true;
     }
-    is_any_set(&p[28..44])
+    is_any_set(&p[layout::CHADDR..layout::SNAME])
 }
 
 // The hardware key, the only one.
@@ -53,14 +53,14 @@ fn by_hardware(p: &[u8]) -> Query
     requires { ⌜ Passed 6 (now p) Absent × (hasHardwareKey (now p) ≡ true) ⌝ }
     ensures { λ r. ⌜ r ≡ reading (now (p .entry)) ⌝ }
 {
-    let hlen = p[2];
+    let hlen = p[layout::HLEN];
     if hlen == 0 {
         return Query::Refused(7);
     }
     if layout::LONGEST_HARDWARE < hlen {
         return Query::Refused(7);
     }
-    Query::ByHardware(p[1], hlen)
+    Query::ByHardware(p[layout::HTYPE], hlen)
 }
 
 // The key: there must be exactly one.
@@ -163,7 +163,7 @@ pub fn read(p: &[u8]) -> Query
     if !is_packet(p) {
         return Query::Refused(1);
     }
-    if number::octet_at(p, 0) != layout::BOOTREQUEST {
+    if number::octet_at(p, layout::OP) != layout::BOOTREQUEST {
         return Query::Refused(2);
     }
     by_options(p)

@@ -1,6 +1,7 @@
 // What a query has looked for in the table, or the refusal because of which nothing is looked for.
 use clock::Moment;
 use lease::Rank;
+use leasepacket::layout;
 use leasepacket::query;
 use leasepacket::query::Query;
 use leasereply::reply;
@@ -84,7 +85,7 @@ fn key_for(p: &[u8], q: Query) -> Key
             octets: none,
         },
         Query::ByHardware(htype, hlen) => {
-            let octets = octets_from(p, 28, 16);
+            let octets = octets_from(p, layout::CHADDR, 16);
             Key {
                 kind: 2,
                 htype,

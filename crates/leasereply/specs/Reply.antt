@@ -11,7 +11,7 @@ use Rattle.octets.specs.Number.{bigEndian}
 use Rattle.octets.specs.Write.{laid}
 use Rattle.lease.specs.declared.Lease.{Lease}
 use Rattle.lease.specs.declared.Rank.{Rank}
-use Rattle.leasepacket.specs.Packet.{part, cookie}
+use Rattle.leasepacket.specs.Packet.{part, cookie, messageType, clientId, leaseTime, serverId, relayInformation, lastTransactionTime, associatedIp}
 
 -- op 2; xid, flags and giaddr copied from the query; the other fields zero, but for those given; the cookie.
 unfoldable pub fixed : List ℕ → ℕ → ℕ → List ℕ → List ℕ → List ℕ
@@ -30,8 +30,8 @@ optional code (x ∷ xs) = option code (x ∷ xs)
 -- 51, seconds to expiry; 61 and 82 if the record has them; 91, seconds since the last transaction.
 unfoldable pub ofLease : Moment → Lease → List ℕ
 ofLease clock x =
-    option 51 (bigEndian 4 (secondsLeft (x .expiry) clock .0)) ++ optional 61 (take (x .idlen) (x .id))
-    ++ optional 82 (take (x .relaylen) (x .relay)) ++ option 91 (bigEndian 4 (secondsSince (x .last) clock .0))
+    option leaseTime (bigEndian 4 (secondsLeft (x .expiry) clock .0)) ++ optional clientId (take (x .idlen) (x .id))
+    ++ optional relayInformation (take (x .relaylen) (x .relay)) ++ option lastTransactionTime (bigEndian 4 (secondsSince (x .last) clock .0))
 
 -- Addresses, each of four octets.
 unfoldable pub flat : List ℕ → List ℕ
@@ -42,14 +42,14 @@ flat (a ∷ rest) = bigEndian 4 a ++ flat rest
 unfoldable pub otherReply : ℕ → ℕ → List ℕ → List ℕ
 otherReply kind server query =
     fixed query (getD query 1 0) (getD query 2 0) (part query 12 4) (part query 28 16)
-    ++ option 53 (kind ∷ []) ++ option 54 (bigEndian 4 server) ++ (255 ∷ [])
+    ++ option messageType (kind ∷ []) ++ option serverId (bigEndian 4 server) ++ (255 ∷ [])
 
 -- LEASEACTIVE (13): ciaddr, htype, hlen and all 16 octets of chaddr from the record; then 53, 54, what tells of the lease, and 92 with
 -- the addresses given, if any; 255.
 unfoldable pub activeReply : Moment → ℕ → List ℕ → Lease → List ℕ → List ℕ
 activeReply clock server query x addresses =
     fixed query (x .htype) (x .hlen) (bigEndian 4 (x .address)) (take 16 (x .chaddr))
-    ++ option 53 (13 ∷ []) ++ option 54 (bigEndian 4 server) ++ ofLease clock x ++ optional 92 (flat addresses) ++ (255 ∷ [])
+    ++ option messageType (13 ∷ []) ++ option serverId (bigEndian 4 server) ++ ofLease clock x ++ optional associatedIp (flat addresses) ++ (255 ∷ [])
 
 -- ---- for the contracts of functions that are not exported
 

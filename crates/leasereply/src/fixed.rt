@@ -15,9 +15,9 @@ fn put_front(buf: &mut [u8], query: &[u8], htype: u8, hlen: u8) -> usize
 {
     let head = [layout::BOOTREPLY, htype, hlen, 0];
     let a = write::put_octets(buf, 0, &head);
-    let b = write::put_octets(buf, a, &query[4..8]);
+    let b = write::put_octets(buf, a, &query[layout::XID..layout::SECS]);
     let c = write::put_zeros(buf, b, 2);
-    write::put_octets(buf, c, &query[10..12])
+    write::put_octets(buf, c, &query[layout::FLAGS..layout::CIADDR])
 }
 
 // ciaddr, yiaddr and siaddr, giaddr, chaddr, sname and file, the cookie.
@@ -28,7 +28,7 @@ fn put_back(buf: &mut [u8], at: usize, query: &[u8], ciaddr: &[u8], chaddr: &[u8
     let cookie = [99, 130, 83, 99];
     let a = write::put_octets(buf, at, ciaddr);
     let b = write::put_zeros(buf, a, 8);
-    let c = write::put_octets(buf, b, &query[24..28]);
+    let c = write::put_octets(buf, b, &query[layout::GIADDR..layout::CHADDR]);
     let d = write::put_octets(buf, c, chaddr);
     let e = write::put_zeros(buf, d, 192);
     write::put_octets(buf, e, &cookie)

@@ -24,10 +24,10 @@ fn put_other(buf: &mut [u8], kind: u8, server: u32, query: &[u8]) -> usize
     let a = fixed::put_fixed(
         buf,
         query,
-        query[1],
-        query[2],
-        &query[12..16],
-        &query[28..44],
+        query[layout::HTYPE],
+        query[layout::HLEN],
+        &query[layout::CIADDR..layout::YIADDR],
+        &query[layout::CHADDR..layout::SNAME],
     );
     let b = options::put_kind(buf, a, kind);
     let c = options::put_number(buf, b, layout::SERVER_ID, server);
