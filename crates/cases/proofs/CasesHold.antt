@@ -10,10 +10,11 @@ use Rattle.serverlist.specs.Entries.{keep, oneOf, each, distinct, removed, rene
 use Rattle.serverlist.specs.Servers.{packed, isSound, isTimely}
 use Rattle.rdnss.specs.Area.{isWhole, options, isArea, isActing, addressesFrom}
 use Rattle.rdnss.specs.ServerList.{optionApplied, serverList}
-use Rattle.lease.specs.Lease.{allZero, hardwareFits, lengthsFit, momentsFit, wellFormed, activeAt, hasClientId, ranksBefore}
+use Rattle.lease.specs.Lease.{allZero, hardwareFits, lengthsFit, momentsFit, wellFormed, activeAt, hasHardware, hasClientId, ranksBefore}
 use Rattle.leasepacket.specs.Options as packetOptions
-use Rattle.leasepacket.specs.Options.{values, checked}
-use Rattle.leasepacket.specs.Query.{anySet, hardware, hardwareSet, keyed, relayed, typed, asking}
+use Rattle.leasepacket.specs.Packet.{isPacket}
+use Rattle.leasepacket.specs.Options.{values, hasOptions}
+use Rattle.leasepacket.specs.Query.{anySet, hasHardwareKey, keys, keyOf, hasBadLength, refusals, firstOf, asking}
 use Rattle.leasetable.specs.Table.{risesFrom, tableFits, those, placed, ranked}
 use Rattle.leasereply.specs.Reply.{fixed, ofLease, flat, otherReply, activeReply}
 use Rattle.leasequery.specs.Answer.{hasKey, byAddressOf, byClientOf, answerBy, askedOf, answer}
@@ -23,5 +24,5 @@ use Rattle.job.specs.Jobs.{fresh, after, afterFirst, afterSecond, step}
 use Rattle.cases.specs.Cases.{Holds, All, cases, stepped, steppedFresh}
 
 pub cases-hold : All cases
-unfolding All Holds cases labelsOf limited shapeOf honoured flagAnswer byName bySuffix byFlags byValue answerOf octetsOf resultOf sameOctets numberAt isExpiry isPast expiryAfter keep oneOf each distinct removed renewed evicted roomed inserted named namedAll isWhole options isArea isActing addressesFrom packed isSound isTimely optionApplied serverList bigEndian isAhead secondsLeft secondsSince allZero hardwareFits lengthsFit momentsFit wellFormed activeAt hasClientId ranksBefore packetOptions.options values checked anySet hardware hardwareSet keyed relayed typed asking risesFrom tableFits those placed ranked fixed ofLease flat otherReply activeReply hasKey byAddressOf byClientOf answerBy askedOf answer key including excluding with withName withoutName heldBy empty withAddress withoutAddress newHost left fits writeB requestA requestB removeAddress deleteName removeName fresh after afterFirst afterSecond step stepped steppedFresh
-cases-hold = (refl, (refl, (refl, (refl, (refl, (refl, (refl, ((refl, refl), ((refl, refl), ((refl, refl), (refl, (refl, (refl, (refl, (refl, (refl, ((refl, refl), ((refl, refl, refl), ((refl, refl, refl), ((refl, refl, refl), tt))))))))))))))))))))
+unfolding All Holds cases labelsOf limited shapeOf honoured flagAnswer byName bySuffix byFlags byValue answerOf octetsOf resultOf sameOctets numberAt isExpiry isPast expiryAfter keep oneOf each distinct removed renewed evicted roomed inserted named namedAll isWhole options isArea isActing addressesFrom packed isSound isTimely optionApplied serverList bigEndian isAhead secondsLeft secondsSince allZero hardwareFits lengthsFit momentsFit wellFormed activeAt hasClientId ranksBefore packetOptions.options values anySet asking risesFrom tableFits those placed ranked fixed ofLease flat otherReply activeReply hasKey byAddressOf byClientOf answerBy askedOf answer key including excluding with withName withoutName heldBy empty withAddress withoutAddress newHost left fits writeB requestA requestB removeAddress deleteName removeName fresh after afterFirst afterSecond step stepped steppedFresh hasHardware hasHardwareKey keys keyOf hasBadLength refusals firstOf isPacket hasOptions
+cases-hold = (refl, (refl, (refl, (refl, (refl, (refl, (refl, ((refl, refl), ((refl, refl), ((refl, refl), (refl, (refl, (refl, (refl, (refl, (refl, ((refl, refl), ((refl, refl), ((refl, refl), ((refl, refl, refl), ((refl, refl, refl), ((refl, refl, refl), tt))))))))))))))))))))))

@@ -72,27 +72,35 @@ server octet until = record { address = record { octets = replicate 16 octet }; 
 abbrev servers : ℕ → ℕ → List ℕ → List ℕ
 servers units lifetime octets = 25 ∷ units ∷ 0 ∷ 0 ∷ 0 ∷ 0 ∷ 0 ∷ lifetime ∷ octets
 
--- the leases of P10: an address, and client id p7, last seen at 50 and leased until 200
+-- the 16 octets of the hardware address in P10, of which six count
+abbrev hardware : List ℕ
+hardware = 2 ∷ 0 ∷ 0 ∷ 0 ∷ 0 ∷ 7 ∷ replicate 10 0
+
+-- the leases of P10: an address, hardware address 2:0:0:0:0:7 of type 1, and client id p7, last seen at 50 and leased until 200
 abbrev lease : ℕ → Lease
 lease address =
     record {
       last = moment 50;
       expiry = moment 200;
-      chaddr = replicate 16 0;
+      chaddr = hardware;
       id = 112 ∷ 55 ∷ replicate 62 0;
       relay = replicate 64 0;
       address = address;
       state = 1;
-      htype = 0;
-      hlen = 0;
+      htype = 1;
+      hlen = 6;
       idlen = 2;
       relaylen = 0;
     }
 
--- the packet of P10: a lease query by client id p7, from the relay 10.0.0.1
+-- the packets of P10, lease queries from the relay 10.0.0.1: by client id p7, and by hardware address
 abbrev packet : List ℕ
 packet =
     (1 ∷ replicate 23 0) ++ (10 ∷ 0 ∷ 0 ∷ 1 ∷ replicate 208 0) ++ (99 ∷ 130 ∷ 83 ∷ 99 ∷ 53 ∷ 1 ∷ 10 ∷ 61 ∷ 2 ∷ 112 ∷ 55 ∷ 255 ∷ [])
+
+abbrev packetByHardware : List ℕ
+packetByHardware =
+    (1 ∷ 1 ∷ 6 ∷ replicate 21 0) ++ (10 ∷ 0 ∷ 0 ∷ 1 ∷ []) ++ hardware ++ replicate 192 0 ++ (99 ∷ 130 ∷ 83 ∷ 99 ∷ 53 ∷ 1 ∷ 10 ∷ 255 ∷ [])
 
 -- P11 and P12: pipe7.stage, held by X with the one address that X added to the empty zone
 abbrev update : ℕ → ℕ → Update
@@ -140,8 +148,10 @@ cases =
     ∷ area 0 [] 100 (servers 3 60 (replicate 16 1)) (server 1 160 ∷ [])
     ∷ area 100 (server 1 160 ∷ []) 160 [] (server 1 160 ∷ [])
     ∷ area 100 (server 1 160 ∷ []) 161 [] []
-    -- P10: two active leases with equal transaction moments: the lower address
+    -- P10: two active leases with equal transaction moments: the lower address; and where all have expired, unknown
     ∷ query 100 (lease 7 ∷ lease 9 ∷ []) packet 13 7
+    ∷ query 100 (lease 7 ∷ lease 9 ∷ []) packetByHardware 13 7
+    ∷ query 200 (lease 7 ∷ lease 9 ∷ []) packetByHardware 12 0
     -- P11: the name is held by X, Y adds: two requests, conflict
     ∷ jobs held xRemoves yAdds (false ∷ false ∷ []) beforeFirst (ended (conflict 2)) (held .at (key (update 1 7 .name)))
     -- P12: X removes its only address, Y adds in between: Y in conflict and the name gone, as with Y first and X after

@@ -1,4 +1,4 @@
 -- Laws that belong to no one function. Crates above cite the definitions through these.
 pub mod FormLaws
-pub mod LeadLaws
+pub mod LeadingLaws
 pub mod ListLaws

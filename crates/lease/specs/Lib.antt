@@ -1,3 +1,3 @@
 -- The definitions that the contracts cite.
 pub mod Lease
-pub mod Lead
+pub mod Leading

@@ -1,9 +1,10 @@
 // One record of the lease table, by value: its form, whether it is active, the keys it has, its rank.
 use clock::Moment;
 
+pub mod activity;
 pub mod form;
 pub mod key;
-pub mod lead;
+pub mod leading;
 pub mod order;
 
 // A lease. The octets of `id` and `relay` past their lengths are not looked at.

@@ -2,7 +2,7 @@
 use Prim.Native.Nat.{ℕ, _≤_, _<_}
 use mathlib.Core.Path.{_≡_, refl, sym, ap, _∙_, subst}
 use mathlib.Core.Bool.{Bool, true, not, _&&_}
-use mathlib.Core.List.{List, [], _∷_, map, headD}
+use mathlib.Core.List.{List, [], _∷_, map}
 use mathlib.Core.Logic.{inl, inr}
 use native.Mathlib.Omega.{arith}
 use lib.Dec.{ltb, leb, eqb}
@@ -12,20 +12,21 @@ use Rattle.octets.proofs.BoolLaws.{and-left, and-right}
 use Rattle.clock.specs.declared.Moment.{Moment}
 use Rattle.clock.specs.Clock.{isMoment}
 use Rattle.lease.specs.declared.Lease.{Lease}
-use Rattle.lease.specs.Lease.{noLease, activeAt, rankOf, ranksBefore, wellFormed, lengthsFit, momentsFit, hardwareFits}
-use Rattle.leasepacket.specs.Query.{Asked, refused, byAddress, byHardware, byClientId, asking}
+use Rattle.lease.specs.Lease.{noLease, activeAt, wellFormed, lengthsFit, momentsFit, hardwareFits}
+use Rattle.leasepacket.specs.Query.{Asked, refused, byAddress, byHardware, byClientId, firstOf, asking}
 use Rattle.leasetable.specs.Table.{tableFits, risesFrom, those, ranked}
-use Rattle.leasereply.specs.Reply.{activeReply}
+use Rattle.octets.specs.Write.{laid}
+use Rattle.leasereply.specs.Reply.{otherReply, activeReply}
 use Rattle.leasequery.specs.Answer.{Outcome, refusal, reply, told, written, hasKey, byAddressOf, byClientOf, leasesOf, answerBy, askedOf, answer}
-use Rattle.leaseclaims.specs.Claims.{Call, ActiveAt, NoneActive, UnknownExactly, Demand2, NeverUnassigned, Named, NamesTheBest, In, given, Listed, ListsThem, Fits}
-use Rattle.leaseclaims.proofs.ListLaws.{those-none, none-those, ranked-length, none-before, StandsAt, AllStand, those-stand, ranked-stand, head-stands}
+use Rattle.leaseclaims.specs.Claims.{Call, ActiveAt, NoneActive, UnknownExactly, Demand2, TellsUnknown, NeverUnassigned, In, Ordered, given, ToldActive, TellsActive, Fits}
+use Rattle.leaseclaims.proofs.ListLaws.{those-none, none-those, ranked-length, StandsAt, AllStand, those-stand, ranked-stand}
 use Rattle.leaseclaims.proofs.OrderLaws.{ranked-ordered, formed-at, in-ranked, stand-in}
 use Rattle.leasereply.proofs.ReplyLaws.{other-short, active-short}
 use borrow.Author.Tests.{leb-true}
 
 -- ---- what was asked, where there is no refusal
 asked-is : (clock : Moment) (t : List Lease) (server : ℕ) (q : List ℕ) (room : ℕ) → told (answer clock t server q room) .refusal ≡ 0 → askedOf clock t q room ≡ asking q
-unfolding answer askedOf answerBy
+unfolding answer askedOf answerBy firstOf
 asked-is clock t server q room r =
     cases (not (isMoment clock)) (λ e. absurd (let z : _≡_ {A = ℕ} 15 0 = rw e at r in omega arith))
     (λ e. cases (not (tableFits t)) (λ f. absurd (let z : _≡_ {A = ℕ} 9 0 = rw (e, f) at r in omega arith))
@@ -36,7 +37,7 @@ answer-is : (c : Call) → c .result .refusal ≡ 0 → answer (c .clock) (c .ta
 unfolding answer
 answer-is c r =
     ap (λ (k : Asked). answerBy (c .clock) (c .server) (c .query) k (c .table))
-    (asked-is (c .clock) (c .table) (c .server) (c .query) (length (c .buffer)) (sym (ap (λ a. a .refusal) (c .answers)) ∙ r))
+    (asked-is (c .clock) (c .table) (c .server) (c .query) (length (c .buffer)) (sym (ap (λ a. a .refusal) (c .promised .answers)) ∙ r))
 
 -- ---- the leases of a client
 and-both : {a b : Bool} → a ≡ true → b ≡ true → (a && b) ≡ true
@@ -86,28 +87,6 @@ module _ (c : Call) (key : Asked) where
   exactly : c .result .kind ≡ told (byClientOf (c .clock) (c .server) (c .query) leases) .kind → UnknownExactly c (hasKey key)
   exactly e = (λ k. none-iff (sym e ∙ k), λ n. e ∙ iff-none n)
 
-  -- the first of the ranked is the one that is named
-  names : (x : Lease) (xs : List Lease) → leases ≡ x ∷ xs → (as₁ : List ℕ) → written (answer (c .clock) (c .table) (c .server) (c .query) (length (c .buffer))) ≡ activeReply (c .clock) (c .server) (c .query) x as₁ → Named c key
-  unfolding headD
-  names x xs e as₁ w =
-      let s : StandsAt test (c .table) x = head-stands test (c .table) x xs e in
-      let i = s .0 in
-      let y = getD (c .table) i noLease in
-      let t : test y ≡ true = ap test (s .2) ∙ s .3 in
-      record {
-        place = i;
-        active = record { inside = s .1; active = and-left (activeAt (c .clock) y) (hasKey key y) t; has = and-right (activeAt (c .clock) y) (hasKey key y) t };
-        first = λ j a. ap (λ (z : Lease). ranksBefore (rankOf (getD (c .table) j noLease)) (rankOf z)) (s .2 ∙ sym (ap (λ (l : List Lease). headD l noLease) e)) ∙ none-before test (c .table) j (a .inside) (and-both (a .active) (a .has));
-        addresses = as₁;
-        tells = w ∙ ap (λ (z : Lease). activeReply (c .clock) (c .server) (c .query) z as₁) (sym (s .2));
-      }
-
-  named : (l : List Lease) → leases ≡ l → written (answer (c .clock) (c .table) (c .server) (c .query) (length (c .buffer))) ≡ written (byClientOf (c .clock) (c .server) (c .query) l) → told (byClientOf (c .clock) (c .server) (c .query) l) .kind ≡ 13 → Named c key
-  unfolding byClientOf headD
-  named [] e w k = absurd (omega (arith, k))
-  named (x ∷ []) e w k = names x [] e [] w
-  named (x ∷ y ∷ ys) e w k = names x (y ∷ ys) e (take 63 (map (λ z. z .address) (x ∷ y ∷ ys))) w
-
 -- ---- demand 2
 client-hardware : (c : Call) (htype hlen : ℕ) (o : List ℕ) → c .result .refusal ≡ 0 → asking (c .query) ≡ byHardware htype hlen o → answer (c .clock) (c .table) (c .server) (c .query) (length (c .buffer)) ≡ byClientOf (c .clock) (c .server) (c .query) (leases c (byHardware htype hlen o))
 unfolding answerBy
@@ -120,8 +99,8 @@ client-id c o r a = answer-is c r ∙ ap (λ (k : Asked). answerBy (c .clock) (c
 pub demand-2 : Demand2
 unfolding hasKey
 demand-2 = record {
-  by-hardware = λ c htype hlen o r a. exactly c (byHardware htype hlen o) (ap (λ x. x .kind) (c .answers) ∙ ap (λ (w : Outcome). told w .kind) (client-hardware c htype hlen o r a));
-  by-client-id = λ c o r a. exactly c (byClientId o) (ap (λ x. x .kind) (c .answers) ∙ ap (λ (w : Outcome). told w .kind) (client-id c o r a));
+  by-hardware = λ c htype hlen o r a. exactly c (byHardware htype hlen o) (ap (λ x. x .kind) (c .promised .answers) ∙ ap (λ (w : Outcome). told w .kind) (client-hardware c htype hlen o r a));
+  by-client-id = λ c o r a. exactly c (byClientId o) (ap (λ x. x .kind) (c .promised .answers) ∙ ap (λ (w : Outcome). told w .kind) (client-id c o r a));
 }
 
 -- ---- kinds of answer: a refusal has the kind 0
@@ -131,41 +110,59 @@ refusal-zero (reply j o) k h e = refl
 
 no-refusal : (c : Call) (k : ℕ) → 0 < k → c .result .kind ≡ k → c .result .refusal ≡ 0
 no-refusal c k h e =
-    ap (λ x. x .refusal) (c .answers) ∙ refusal-zero (answer (c .clock) (c .table) (c .server) (c .query) (length (c .buffer))) k h (sym (ap (λ x. x .kind) (c .answers)) ∙ e)
+    ap (λ x. x .refusal) (c .promised .answers) ∙ refusal-zero (answer (c .clock) (c .table) (c .server) (c .query) (length (c .buffer))) k h (sym (ap (λ x. x .kind) (c .promised .answers)) ∙ e)
 
 pub never-unassigned : NeverUnassigned
 never-unassigned c (inl (htype, hlen, o, a)) e =
     kind-not-11 (c .clock) (c .server) (c .query) (leases c (byHardware htype hlen o))
-    (sym (ap (λ (w : Outcome). told w .kind) (client-hardware c htype hlen o (no-refusal c 11 (omega arith) e) a)) ∙ sym (ap (λ x. x .kind) (c .answers)) ∙ e)
+    (sym (ap (λ (w : Outcome). told w .kind) (client-hardware c htype hlen o (no-refusal c 11 (omega arith) e) a)) ∙ sym (ap (λ x. x .kind) (c .promised .answers)) ∙ e)
 never-unassigned c (inr (o, a)) e =
     kind-not-11 (c .clock) (c .server) (c .query) (leases c (byClientId o))
-    (sym (ap (λ (w : Outcome). told w .kind) (client-id c o (no-refusal c 11 (omega arith) e) a)) ∙ sym (ap (λ x. x .kind) (c .answers)) ∙ e)
+    (sym (ap (λ (w : Outcome). told w .kind) (client-id c o (no-refusal c 11 (omega arith) e) a)) ∙ sym (ap (λ x. x .kind) (c .promised .answers)) ∙ e)
 
-pub names-the-best : NamesTheBest
-names-the-best c (inl (htype, hlen, o, a)) e =
-    let d = client-hardware c htype hlen o (no-refusal c 13 (omega arith) e) a in
-    subst (Named c) (sym a) (named c (byHardware htype hlen o) (leases c (byHardware htype hlen o)) refl (ap written d) (sym (ap (λ (w : Outcome). told w .kind) d) ∙ sym (ap (λ x. x .kind) (c .answers)) ∙ e))
-names-the-best c (inr (o, a)) e =
-    let d = client-id c o (no-refusal c 13 (omega arith) e) a in
-    subst (Named c) (sym a) (named c (byClientId o) (leases c (byClientId o)) refl (ap written d) (sym (ap (λ (w : Outcome). told w .kind) d) ∙ sym (ap (λ x. x .kind) (c .answers)) ∙ e))
-
--- ---- option 92
+-- ---- what the buffer holds
 rises : (t : List Lease) → tableFits t ≡ true → risesFrom 0 t ≡ true
 unfolding tableFits
 rises t e = and-right (leb (length t) 256) (risesFrom 0 t) e
 
 table-fits : (c : Call) → c .result .refusal ≡ 0 → tableFits (c .table) ≡ true
-unfolding answer askedOf answerBy
+unfolding answer askedOf answerBy firstOf
 table-fits c r =
-    let z : told (answer (c .clock) (c .table) (c .server) (c .query) (length (c .buffer))) .refusal ≡ 0 = sym (ap (λ a. a .refusal) (c .answers)) ∙ r in
+    let z : told (answer (c .clock) (c .table) (c .server) (c .query) (length (c .buffer))) .refusal ≡ 0 = sym (ap (λ a. a .refusal) (c .promised .answers)) ∙ r in
     cases (not (isMoment (c .clock))) (λ e. absurd (let y : _≡_ {A = ℕ} 15 0 = rw e at z in omega arith))
     (λ e. cases (tableFits (c .table)) (λ f. f) (λ f. absurd (let y : _≡_ {A = ℕ} 9 0 = rw (e, f) at z in omega arith)))
 
-tells-of : (clock : Moment) (server : ℕ) (q : List ℕ) (l : List Lease) → told (byClientOf clock server q l) .kind ≡ 13 → written (byClientOf clock server q l) ≡ activeReply clock server q (headD l noLease) (given l)
-unfolding byClientOf headD
-tells-of clock server q [] e = absurd (omega (arith, e))
-tells-of clock server q (x ∷ []) e = refl
-tells-of clock server q (x ∷ y ∷ ys) e = refl
+module _ (clock : Moment) (server : ℕ) (q : List ℕ) where
+  client-unknown : (l : List Lease) → told (byClientOf clock server q l) .kind ≡ 12 → written (byClientOf clock server q l) ≡ otherReply 12 server q
+  unfolding byClientOf
+  client-unknown [] e = refl
+  client-unknown (x ∷ []) e = absurd (omega (arith, e))
+  client-unknown (x ∷ y ∷ ys) e = absurd (omega (arith, e))
+
+  address-unknown : (l : List Lease) → told (byAddressOf clock server q l) .kind ≡ 12 → written (byAddressOf clock server q l) ≡ otherReply 12 server q
+  unfolding byAddressOf
+  address-unknown [] e = refl
+  address-unknown (x ∷ xs) e = cases (activeAt clock x)
+      (λ t. absurd (let z : _≡_ {A = ℕ} 13 12 = rw t at e in omega arith))
+      (λ t. absurd (let z : _≡_ {A = ℕ} 11 12 = rw t at e in omega arith))
+
+  tells-of : (x : Lease) (xs : List Lease) → written (byClientOf clock server q (x ∷ xs)) ≡ activeReply clock server q x (given (x ∷ xs))
+  unfolding byClientOf
+  tells-of x [] = refl
+  tells-of x (y ∷ ys) = refl
+
+holds-unknown : (clock : Moment) (server : ℕ) (q : List ℕ) (key : Asked) (t : List Lease) → told (answerBy clock server q key t) .kind ≡ 12 → written (answerBy clock server q key t) ≡ otherReply 12 server q
+unfolding answerBy
+holds-unknown clock server q (refused n) t e = absurd (omega (arith, e))
+holds-unknown clock server q (byAddress a) t e = address-unknown clock server q (those (hasKey (byAddress a)) t) e
+holds-unknown clock server q (byHardware htype hlen o) t e = client-unknown clock server q (ranked (leasesOf clock server q (byHardware htype hlen o) t)) e
+holds-unknown clock server q (byClientId o) t e = client-unknown clock server q (ranked (leasesOf clock server q (byClientId o) t)) e
+
+pub tells-unknown : TellsUnknown
+unfolding answer
+tells-unknown c e =
+    let k = sym (ap (λ x. x .kind) (c .promised .answers)) ∙ e in
+    c .promised .writes ∙ ap (λ (o : List ℕ). laid o (c .buffer)) (holds-unknown (c .clock) (c .server) (c .query) (askedOf (c .clock) (c .table) (c .query) (length (c .buffer))) (c .table) k)
 
 module _ (c : Call) (key : Asked) (f : tableFits (c .table) ≡ true) where
   only-those : (x : Lease) → In x (leases c key) → (i : ℕ) × ActiveAt c (hasKey key) i × (getD (c .table) i noLease ≡ x)
@@ -175,25 +172,33 @@ module _ (c : Call) (key : Asked) (f : tableFits (c .table) ≡ true) where
       let t : test c key y ≡ true = ap (test c key) (s .2) ∙ s .3 in
       (s .0, record { inside = s .1; active = and-left (activeAt (c .clock) y) (hasKey key y) t; has = and-right (activeAt (c .clock) y) (hasKey key y) t }, s .2)
 
-  listed : answer (c .clock) (c .table) (c .server) (c .query) (length (c .buffer)) ≡ byClientOf (c .clock) (c .server) (c .query) (leases c key) → told (byClientOf (c .clock) (c .server) (c .query) (leases c key)) .kind ≡ 13 → Listed c key
-  listed d k = record {
-    leases = leases c key;
-    ordered = ranked-ordered (test c key) (c .table) (rises (c .table) f);
-    only = only-those;
-    all = λ i a. in-ranked (test c key) (c .table) i (a .inside) (and-both (a .active) (a .has));
-    best = headD (leases c key) noLease;
-    tells = ap written d ∙ tells-of (c .clock) (c .server) (c .query) (leases c key) k;
+  all-those : (i : ℕ) → ActiveAt c (hasKey key) i → In (getD (c .table) i noLease) (leases c key)
+  all-those i a = in-ranked (test c key) (c .table) i (a .inside) (and-both (a .active) (a .has))
+
+  told-active : (l : List Lease) → leases c key ≡ l → c .after ≡ laid (written (byClientOf (c .clock) (c .server) (c .query) l)) (c .buffer) → told (byClientOf (c .clock) (c .server) (c .query) l) .kind ≡ 13 → ToldActive c key
+  unfolding byClientOf
+  told-active [] e w k = absurd (omega (arith, k))
+  told-active (x ∷ xs) e w k = record {
+    best = x;
+    others = xs;
+    ordered = subst Ordered e (ranked-ordered (test c key) (c .table) (rises (c .table) f));
+    only = λ y h. only-those y (subst (In y) (sym e) h);
+    all = λ i a. subst (In (getD (c .table) i noLease)) e (all-those i a);
+    holds = w ∙ ap (λ (o : List ℕ). laid o (c .buffer)) (tells-of (c .clock) (c .server) (c .query) x xs);
   }
 
-pub lists-them : ListsThem
-lists-them c (inl (htype, hlen, o, a)) e =
+from-client : (c : Call) (key : Asked) → tableFits (c .table) ≡ true → answer (c .clock) (c .table) (c .server) (c .query) (length (c .buffer)) ≡ byClientOf (c .clock) (c .server) (c .query) (leases c key) → c .result .kind ≡ 13 → ToldActive c key
+from-client c key f d e =
+    told-active c key f (leases c key) refl (c .promised .writes ∙ ap (λ (w : Outcome). laid (written w) (c .buffer)) d)
+    (sym (ap (λ (w : Outcome). told w .kind) d) ∙ sym (ap (λ x. x .kind) (c .promised .answers)) ∙ e)
+
+pub tells-active : TellsActive
+tells-active c (inl (htype, hlen, o, a)) e =
     let r = no-refusal c 13 (omega arith) e in
-    let d = client-hardware c htype hlen o r a in
-    subst (Listed c) (sym a) (listed c (byHardware htype hlen o) (table-fits c r) d (sym (ap (λ (w : Outcome). told w .kind) d) ∙ sym (ap (λ x. x .kind) (c .answers)) ∙ e))
-lists-them c (inr (o, a)) e =
+    subst (ToldActive c) (sym a) (from-client c (byHardware htype hlen o) (table-fits c r) (client-hardware c htype hlen o r a) e)
+tells-active c (inr (o, a)) e =
     let r = no-refusal c 13 (omega arith) e in
-    let d = client-id c o r a in
-    subst (Listed c) (sym a) (listed c (byClientId o) (table-fits c r) d (sym (ap (λ (w : Outcome). told w .kind) d) ∙ sym (ap (λ x. x .kind) (c .answers)) ∙ e))
+    subst (ToldActive c) (sym a) (from-client c (byClientId o) (table-fits c r) (client-id c o r a) e)
 
 -- ---- every reply fits
 formed-lengths : (x : Lease) → wellFormed x ≡ true → (x .idlen ≤ 64) × (x .relaylen ≤ 64)
@@ -232,10 +237,10 @@ module _ (clock : Moment) (server : ℕ) (q : List ℕ) (t : List Lease) (r : ri
   asked-fits (byClientId o) = client-fits (λ x. activeAt clock x && hasKey (byClientId o) x) (ranked (leasesOf clock server q (byClientId o) t)) (ranked-stand (λ x. activeAt clock x && hasKey (byClientId o) x) t)
 
 answer-fits : (clock : Moment) (t : List Lease) (server : ℕ) (q : List ℕ) (room : ℕ) → told (answer clock t server q room) .length ≤ 648
-unfolding answer askedOf answerBy
+unfolding answer askedOf answerBy firstOf
 answer-fits clock t server q room =
     cases (not (isMoment clock)) (λ e. rw e (omega arith))
     (λ e. cases (tableFits t) (λ f. asked-fits clock server q t (rises t f) (askedOf clock t q room)) (λ f. rw (e, f) (omega arith)))
 
 pub fits : Fits
-fits c = subst (λ n. n ≤ 648) (sym (ap (λ x. x .length) (c .answers))) (answer-fits (c .clock) (c .table) (c .server) (c .query) (length (c .buffer)))
+fits c = subst (λ n. n ≤ 648) (sym (ap (λ x. x .length) (c .promised .answers))) (answer-fits (c .clock) (c .table) (c .server) (c .query) (length (c .buffer)))

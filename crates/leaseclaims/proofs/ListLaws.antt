@@ -1,8 +1,8 @@
 -- Laws of the leases that pass a test, by their places. Assumes nothing.
 use Prim.Native.Nat.{ℕ, zero, suc, _+_, _≤_, _<_}
-use mathlib.Core.Path.{_≡_, refl, ap, _∙_, subst}
+use mathlib.Core.Path.{_≡_, refl, ap, _∙_}
 use mathlib.Core.Bool.{Bool, true, false}
-use mathlib.Core.List.{List, [], _∷_, foldl, headD}
+use mathlib.Core.List.{List, [], _∷_, foldl}
 use native.Mathlib.Omega.{arith}
 use native.Mathlib.Nat.{zero-add}
 use lib.Dec.{ltb}
@@ -53,65 +53,7 @@ to-not x y e =
     (λ t. cases (ltb (x .address) (y .address)) (λ u. absurd (true-false refl (rw (s, t, u) at e)))
     (λ u. (ltb-false (y .last .0) (x .last .0) s, λ q. ltb-false (x .address) (y .address) u))))
 
-turned : (x y : Rank) → ranksBefore x y ≡ true → NotBefore y x
-unfolding ranksBefore
-turned x y e =
-    cases (ltb (y .last .0) (x .last .0)) (λ s. let l : y .last .0 < x .last .0 = ltb-true _ _ s in (omega arith, λ q. omega arith))
-    (λ s. cases (ltb (x .last .0) (y .last .0)) (λ t. absurd (true-false (rw (s, t) at e) refl))
-    (λ t. cases (ltb (x .address) (y .address)) (λ u. let l : y .last .0 ≤ x .last .0 = ltb-false _ _ t in let m : x .address < y .address = ltb-true _ _ u in (omega arith, λ q. omega arith))
-    (λ u. absurd (true-false (rw (s, t, u) at e) refl))))
-
-from-not : (x y : Rank) → NotBefore x y → ranksBefore x y ≡ false
-unfolding ranksBefore
-from-not x y n =
-    cases (ltb (y .last .0) (x .last .0)) (λ s. let l : y .last .0 < x .last .0 = ltb-true _ _ s in absurd (omega (arith, n .0)))
-    (λ s. cases (ltb (x .last .0) (y .last .0)) (λ t. rw (s, t))
-    (λ t. cases (ltb (x .address) (y .address)) (λ u. let m : x .address < y .address = ltb-true _ _ u in let p : y .last .0 ≤ x .last .0 = ltb-false _ _ t in let q : x .last .0 ≡ y .last .0 = omega (arith, n .0) in absurd (omega (arith, n .1 q)))
-    (λ u. rw (s, t, u))))
-
-trans : (x b r : Rank) → NotBefore x b → NotBefore b r → NotBefore x r
-trans x b r p q = (
-  omega (arith, p .0, q .0),
-  λ e.
-      let e₁ : x .last .0 ≡ b .last .0 = omega (arith, p .0, q .0) in
-      let e₂ : b .last .0 ≡ r .last .0 = omega (arith, p .0, q .0) in
-      omega (arith, p .1 e₁, q .1 e₂),
-)
-
--- the first of the placed: none that was placed ranks before it
-abbrev head : List Lease → Rank
-head l = rankOf (headD l noLease)
-
-first-placed : (x : Lease) (l : List Lease) → NotBefore (rankOf x) (head (placed x l))
-unfolding placed headD
-first-placed x [] = (omega arith, λ e. omega arith)
-first-placed x (y ∷ ys) = cases (ranksBefore (rankOf x) (rankOf y)) (λ t. rw t (omega arith, λ e. omega arith)) (λ t. rw t (to-not (rankOf x) (rankOf y) t))
-
-still-first : (x : Lease) (y : Lease) (ys : List Lease) → NotBefore (rankOf y) (head (placed x (y ∷ ys)))
-unfolding placed headD
-still-first x y ys = cases (ranksBefore (rankOf x) (rankOf y)) (λ t. rw t (turned (rankOf x) (rankOf y) t)) (λ t. rw t (omega arith, λ e. omega arith))
-
-still : (z : Rank) (x : Lease) (l : List Lease) → 0 < length l → NotBefore z (head l) → NotBefore z (head (placed x l))
-unfolding headD
-still z x [] h n = absurd (omega arith)
-still z x (y ∷ ys) h n = trans z (rankOf y) (head (placed x (y ∷ ys))) n (still-first x y ys)
-
-keeps-first : (z : Rank) (l m : List Lease) → 0 < length m → NotBefore z (head m) → NotBefore z (head (foldl (λ ys x. placed x ys) m l))
-keeps-first z [] m h n = n
-keeps-first z (x ∷ xs) m h n = keeps-first z xs (placed x m) (omega (arith, placed-length x m)) (still z x m h n)
-
-first-of : (f : Lease → Bool) (t m : List Lease) (i : ℕ) → i < length t → f (getD t i noLease) ≡ true → NotBefore (rankOf (getD t i noLease)) (head (foldl (λ ys x. placed x ys) m (those f t)))
-unfolding those
-first-of f [] m i h w = absurd (omega arith)
-first-of f (x ∷ xs) m zero h w = rw w (keeps-first (rankOf x) (those f xs) (placed x m) (omega (arith, placed-length x m)) (first-placed x m))
-first-of f (x ∷ xs) m (suc i) h w = cases (f x) (λ t. rw t (first-of f xs (placed x m) i (omega arith) w)) (λ t. rw t (first-of f xs m i (omega arith) w))
-
--- no lease that passes the test ranks before the first of the ranked
-pub none-before : (f : Lease → Bool) (t : List Lease) (i : ℕ) → i < length t → f (getD t i noLease) ≡ true → ranksBefore (rankOf (getD t i noLease)) (rankOf (headD (ranked (those f t)) noLease)) ≡ false
-unfolding ranked
-none-before f t i h w = from-not (rankOf (getD t i noLease)) (head (foldl (λ ys x. placed x ys) [] (those f t))) (first-of f t [] i h w)
-
--- ---- where the first of the ranked stands
+-- ---- where leases that pass a test stand
 abbrev pub StandsAt : (Lease → Bool) → List Lease → Lease → Type 0
 StandsAt f t x = (i : ℕ) × (i < length t) × (getD t i noLease ≡ x) × (f x ≡ true)
 
@@ -140,6 +82,3 @@ those-stand f (x ∷ xs) = cases (f x) (λ w. rw w ((0, omega arith, refl, w), s
 pub ranked-stand : (f : Lease → Bool) (t : List Lease) → AllStand f t (ranked (those f t))
 unfolding ranked
 ranked-stand f t = fold-stand f t (those f t) [] (those-stand f t) tt
-
-pub head-stands : (f : Lease → Bool) (t : List Lease) (x : Lease) (xs : List Lease) → ranked (those f t) ≡ x ∷ xs → StandsAt f t x
-head-stands f t x xs e = subst (AllStand f t) e (ranked-stand f t) .0

@@ -1,3 +1,5 @@
 -- Laws that belong to no one function. Crates above cite the definitions through these.
 pub mod OptionLaws
 pub mod QueryLaws
+pub mod ReadingLaws
+pub mod Equations

@@ -1,20 +1,24 @@
 -- The laws of what a query asks for. Assumes nothing.
-use Prim.Native.Nat.{ℕ, _+_, _≤_, _<_}
-use mathlib.Core.Path.{_≡_, sym, ap, _∙_}
+use Prim.Native.Nat.{ℕ, suc, _+_, _≤_, _<_}
+use mathlib.Core.Path.{_≡_, refl, sym, ap, _∙_}
 use mathlib.Core.List.{List, [], _∷_}
-use mathlib.Core.Bool.{Bool, true, false, not, _||_, and-true}
+use mathlib.Core.Bool.{Bool, true, false, cond, not, _&&_, _||_, and-true}
 use native.Mathlib.Omega.{arith}
 use native.Mathlib.Numerals.{add-one}
 use borrow.Table.Steps.{cases}
-use borrow.Author.Tests.{eq-eqb, ne-eqb, lt-ltb, le-ltb, ltb-false}
-use lib.Dec.{eqb, ltb}
+use borrow.Author.Tests.{eq-eqb, ne-eqb, lt-ltb, le-ltb, ltb-false, leb-true}
+use lib.Dec.{eqb, ltb, leb}
 use lib.ListN.{length, take, drop, getD, length-drop, drop-of-length-le}
 use lib.Seq.{drop-cons, length-take-le}
 use Rattle.octets.specs.Compare.{sameOctets}
 use Rattle.octets.specs.Number.{numberAt}
-use Rattle.leasepacket.specs.Options.{options, Checked, good, faulty, checked}
 use Rattle.octets.proofs.CompareLaws.{same-lengths}
-use Rattle.leasepacket.specs.Query.{anySet, Asked, hardware, hardwareSet, client, clientOr, keys, keyed, relayed, isLeaseQuery, typed, opened, cookie, asking, refused, byAddress, byHardware, byClientId}
+use Rattle.octets.proofs.BoolLaws.{and-left, and-right}
+use Rattle.leasepacket.specs.Packet.{htype, hlen, ciaddr, chaddr, cookie, isPacket}
+use Rattle.leasepacket.specs.Options.{valuesIn}
+use Rattle.leasepacket.specs.declared.query.Query.the-variants.{Refused}
+use Rattle.leasepacket.specs.Query.{anySet, Asked, refused, byAddress, byHardware, byClientId, hasHardwareKey, keys, idOr, keyOf, isShort, hasBadLength, refusals, firstOf, asking}
+use Rattle.leasepacket.specs.Reading.{idPlace, readAt, reading}
 
 module _ (s : List ℕ) (i : ℕ) where
   pub set-found : i < length s → (getD s i 0 ≡ 0 → ⊥) → anySet (drop i s) ≡ true
@@ -33,40 +37,53 @@ module _ (s : List ℕ) (i : ℕ) where
 pub part-length : (p : List ℕ) (at n : ℕ) → at + n ≤ length p → length (take n (drop at p)) ≡ n
 part-length p at n h = length-take-le n (drop at p) (rw length-drop (omega arith))
 
--- The keys by which a packet asks.
+-- The first of the refusals that are left applies, or it does not.
 module _ (p : List ℕ) where
-  pub key-hardware : (a : ℕ) → a ≡ 0 → keyed p a true [] ≡ hardware p
-  unfolding keyed
-  key-hardware a e = rw (eq-eqb a 0 e)
+  pub reads : (a : Asked) → asking p ≡ a → readAt (idPlace p) a ≡ reading p
+  unfolding reading
+  reads a e = sym (ap (readAt (idPlace p)) e)
 
-  pub key-none : (a : ℕ) → a ≡ 0 → keyed p a false [] ≡ refused 6
-  unfolding keyed
-  key-none a e = rw (eq-eqb a 0 e)
+  module _ (n : ℕ) (b : Bool) (rest : List (ℕ × Bool)) (past : asking p ≡ firstOf ((n, b) ∷ rest) (keyOf p)) where
+    pub applies : b ≡ true → Refused n ≡ reading p
+    unfolding firstOf
+    applies t = reads (refused n) (past ∙ rw t)
 
-  pub key-address : (a : ℕ) → (a ≡ 0 → ⊥) → keyed p a false [] ≡ byAddress a
-  unfolding keyed
-  key-address a e = rw (ne-eqb a 0 e)
+    pub passes : b ≡ false → asking p ≡ firstOf rest (keyOf p)
+    unfolding firstOf
+    passes t = past ∙ rw t
 
-  pub key-two : (a : ℕ) → (a ≡ 0 → ⊥) → keyed p a true [] ≡ refused 6
-  unfolding keyed
-  key-two a e = rw (ne-eqb a 0 e)
+  pub none-left : firstOf [] (keyOf p) ≡ keyOf p
+  unfolding firstOf
+  none-left = refl
 
-  pub key-address-id : (a : ℕ) (hw : Bool) (id : List ℕ) → (a ≡ 0 → ⊥) → keyed p a hw (id ∷ []) ≡ refused 6
-  unfolding keyed
-  key-address-id a true id e = rw (ne-eqb a 0 e)
-  key-address-id a false id e = rw (ne-eqb a 0 e)
+  pub begins : asking p ≡ firstOf (refusals p) (keyOf p)
+  unfolding asking
+  begins = refl
 
-  pub key-hardware-id : (a : ℕ) (id : List ℕ) → a ≡ 0 → keyed p a true (id ∷ []) ≡ refused 6
-  unfolding keyed
-  key-hardware-id a id e = rw (eq-eqb a 0 e)
+-- The keys of a packet, by what it has of each kind.
+module _ (p : List ℕ) (hw : Bool) (ids : List (List ℕ)) (h : hasHardwareKey p ≡ hw) (i : valuesIn 61 p ≡ ids) where
+  pub keys-zero : ciaddr p ≡ 0 → keys p ≡ cond hw 1 0 + length ids
+  unfolding keys
+  keys-zero a = rw (eq-eqb (ciaddr p) 0 a, h, i) (omega arith)
 
-  pub key-short : (a : ℕ) (id : List ℕ) → a ≡ 0 → length id < 2 → keyed p a false (id ∷ []) ≡ refused 7
-  unfolding keyed
-  key-short a id e h = rw (eq-eqb a 0 e, lt-ltb (length id) 2 h)
+  pub keys-some : (ciaddr p ≡ 0 → ⊥) → keys p ≡ 1 + cond hw 1 0 + length ids
+  unfolding keys
+  keys-some a = rw (ne-eqb (ciaddr p) 0 a, h, i)
 
-  pub key-id : (a : ℕ) (id : List ℕ) → a ≡ 0 → 2 ≤ length id → keyed p a false (id ∷ []) ≡ byClientId id
-  unfolding keyed
-  key-id a id e h = rw (eq-eqb a 0 e, le-ltb (length id) 2 h)
+  pub key-is : keyOf p ≡ cond hw (byHardware (htype p) (hlen p) (chaddr p)) (idOr (byAddress (ciaddr p)) ids)
+  unfolding keyOf
+  key-is = rw (h, i)
+
+  pub length-is : hasBadLength p ≡ ((hw && (eqb (hlen p) 0 || ltb 16 (hlen p))) || isShort ids)
+  unfolding hasBadLength
+  length-is = rw (h, i)
+
+-- A count of keys that is not one gives refusal 6.
+pub not-one : (n m : ℕ) → n ≡ m → (m ≡ 1 → ⊥) → not (eqb n 1) ≡ true
+not-one n m e k = rw (ne-eqb n 1 (λ z. k (sym e ∙ z)))
+
+pub one : (n m : ℕ) → n ≡ m → m ≡ 1 → not (eqb n 1) ≡ false
+one n m e k = rw (eq-eqb n 1 (e ∙ k))
 
 -- A message type of one octet.
 module _ (p : List ℕ) (at : ℕ) where
@@ -80,6 +97,16 @@ module _ (p : List ℕ) (at : ℕ) where
   unfolding sameOctets
   type-is n e h = rw (e, one-octet h) (and-true (eqb (getD p at 0) 10))
 
+-- A packet has the octets of the fixed fields.
+pub packet-long : (p : List ℕ) → isPacket p ≡ true → (240 ≤ length p) × (length p ≤ 1500)
+unfolding isPacket
+packet-long p e =
+    let a = leb 240 (length p) in
+    let b = leb (length p) 1500 in
+    let c = eqb (numberAt 4 p 236) (numberAt 4 cookie 0) in
+    let d : (a && b) ≡ true = and-left (a && b) c e in
+    (leb-true 240 (length p) (and-left a b d), leb-true (length p) 1500 (and-right a b d))
+
 -- ---- what is known of a query that was read: a refusal has a number, and a key comes from a packet of 240 octets or more, a hardware
 -- key with a length of at most 16
 abbrev pub Sound : List ℕ → Asked → Type 0
@@ -88,43 +115,48 @@ Sound p (byAddress a) = 240 ≤ length p
 Sound p (byHardware htype hlen octets) = (240 ≤ length p) × (hlen ≤ 16) × (length octets ≡ 16)
 Sound p (byClientId octets) = 240 ≤ length p
 
+-- every refusal has a number; none applies
+abbrev pub Numbered : List (ℕ × Bool) → Type 0
+Numbered [] = Unit {0}
+Numbered (r ∷ rs) = (r .0 ≡ 0 → ⊥) × Numbered rs
+
+abbrev pub NoneApplies : List (ℕ × Bool) → Type 0
+NoneApplies [] = Unit {0}
+NoneApplies (r ∷ rs) = (r .1 ≡ false) × NoneApplies rs
+
+pub first-sound : (p : List ℕ) (key : Asked) (rs : List (ℕ × Bool)) → Numbered rs → (NoneApplies rs → Sound p key) → Sound p (firstOf rs key)
+unfolding firstOf
+first-sound p key [] n k = k tt
+first-sound p key (r ∷ rs) n k = cases (r .1) (λ t. rw t (n .0)) (λ t. rw t (first-sound p key rs (n .1) (λ a. k (t, a))))
+
 module _ (p : List ℕ) (l : 240 ≤ length p) where
-  hardware-sound : Sound p (hardware p)
-  unfolding hardware
-  hardware-sound =
-      cases (eqb (getD p 2 0) 0) (λ e. rw e (λ z. omega (arith, z)))
-      (λ e. cases (ltb 16 (getD p 2 0)) (λ f. rw (e, f) (λ z. omega (arith, z)))
-      (λ f. let h : getD p 2 0 ≤ 16 = ltb-false 16 (getD p 2 0) f in rw (e, f) (l, h, part-length p 28 16 (omega arith))))
+  ids-sound : (a : ℕ) (ids : List (List ℕ)) → Sound p (idOr (byAddress a) ids)
+  ids-sound a [] = l
+  ids-sound a (id ∷ ids) = l
 
-  client-sound : (id : List ℕ) → Sound p (client id)
-  client-sound id = cases (ltb (length id) 2) (λ e. rw e (λ z. omega (arith, z))) (λ e. rw e l)
+  key-sound : hasBadLength p ≡ false → Sound p (keyOf p)
+  unfolding keyOf hasBadLength
+  key-sound b =
+      cases (hasHardwareKey p)
+      (λ h. cases (ltb 16 (hlen p))
+      (λ f. absurd (or-false (eqb (hlen p) 0) (isShort (valuesIn 61 p)) (rw (h, f) at b)))
+      (λ f. let k : hlen p ≤ 16 = ltb-false 16 (hlen p) f in rw h (l, k, part-length p 28 16 (omega arith))))
+      (λ h. rw h (ids-sound (ciaddr p) (valuesIn 61 p)))
+    where
+      or-false : (x y : Bool) → ((x || true) || y) ≡ false → ⊥
+      or-false true y e = let z : _≡_ {A = ℕ} 1 0 = ap (λ (c : Bool). cond c 1 0) e in omega arith
+      or-false false y e = let z : _≡_ {A = ℕ} 1 0 = ap (λ (c : Bool). cond c 1 0) e in omega arith
 
-  clients-sound : (a : ℕ) (ids : List (List ℕ)) → Sound p (clientOr (byAddress a) ids)
-  clients-sound a [] = l
-  clients-sound a (id ∷ ids) = client-sound id
-
-  keyed-sound : (a : ℕ) (hw : Bool) (ids : List (List ℕ)) → Sound p (keyed p a hw ids)
-  unfolding keyed
-  keyed-sound a true ids = cases (not (eqb (keys a true ids) 1)) (λ e. rw e (λ z. omega (arith, z))) (λ e. rw e hardware-sound)
-  keyed-sound a false ids = cases (not (eqb (keys a false ids) 1)) (λ e. rw e (λ z. omega (arith, z))) (λ e. rw e (clients-sound a ids))
-
-  relayed-sound : (ids : List (List ℕ)) → Sound p (relayed p ids)
-  unfolding relayed
-  relayed-sound ids = cases (eqb (numberAt 4 p 24) 0) (λ e. rw e (λ z. omega (arith, z))) (λ e. rw e (keyed-sound (numberAt 4 p 12) (hardwareSet p) ids))
-
-  typed-sound : (kinds ids : List (List ℕ)) → Sound p (typed p kinds ids)
-  unfolding typed
-  typed-sound kinds ids = cases (isLeaseQuery kinds) (λ e. rw e (relayed-sound ids)) (λ e. rw e (λ z. omega (arith, z)))
-
-  opened-sound : (c : Checked) → Sound p (opened p c)
-  opened-sound faulty = λ z. omega (arith, z)
-  opened-sound (good kinds ids) = typed-sound kinds ids
+not-not : (b : Bool) → not b ≡ false → b ≡ true
+not-not true e = refl
+not-not false e = sym e
 
 pub asking-sound : (p : List ℕ) → Sound p (asking p)
-unfolding asking
+unfolding asking refusals
 asking-sound p =
-    cases (ltb (length p) 240) (λ e. rw e (λ z. omega (arith, z)))
-    (λ e. let l : 240 ≤ length p = ltb-false (length p) 240 e in
-    cases (ltb 1500 (length p) || not (eqb (numberAt 4 p 236) (numberAt 4 cookie 0))) (λ f. rw (e, f) (λ z. omega (arith, z)))
-    (λ f. cases (not (eqb (getD p 0 0) 1)) (λ g. rw (e, f, g) (λ z. omega (arith, z)))
-    (λ g. rw (e, f, g) (opened-sound p l (checked (options 0 (drop 240 p)))))))
+    first-sound p (keyOf p) (refusals p)
+    (no, (no, (no, (no, (no, (no, (no, tt)))))))
+    (λ n. key-sound p (packet-long p (not-not (isPacket p) (n .0)) .0) (n .1 .1 .1 .1 .1 .1 .0))
+  where
+    no : {n : ℕ} → suc n ≡ 0 → ⊥
+    no z = omega (arith, z)

@@ -1,4 +1,7 @@
--- The definitions that the contracts cite. Places is for the contracts of inner functions only.
+-- The definitions that the contracts cite. Reading is for the contract of `query::read`, Places for those of functions that only this crate calls.
+pub mod Packet
 pub mod Options
-pub mod Places
+pub mod Grammar
 pub mod Query
+pub mod Reading
+pub mod Places

@@ -1,10 +1,11 @@
 -- The options of a packet. Document 01, "Lease table and queries"; their layout is that of RFC 2132.
 use Prim.Native.Nat.{ℕ, zero, suc}
-use mathlib.Core.Bool.{cond, _&&_}
+use mathlib.Core.Bool.{Bool, false, cond, _&&_}
 use mathlib.Core.List.{List, [], _∷_}
 use mathlib.Core.Option.{Option, none, some}
 use lib.Dec.{leb, eqb}
 use lib.ListN.{length, getD, take, drop}
+use Rattle.leasepacket.specs.Packet.{optionArea, messageType, clientId}
 
 -- An option: its code and its value.
 pub record Opt : Type 0 where
@@ -35,14 +36,18 @@ unfoldable pub values : ℕ → List Opt → List (List ℕ)
 values code [] = []
 values code (o ∷ os) = cond (eqb (o .code) code) (o .octets ∷ values code os) (values code os)
 
--- What a query's options come to: the values of 53 and of 61, at most one of each, or a fault (refusal 3).
-pub data Checked : Type 0 where
-  faulty : Checked
-  good : List (List ℕ) → List (List ℕ) → Checked
+-- Those of a packet; where its options can't be read there are none.
+abbrev pub valuesOf : ℕ → Option (List Opt) → List (List ℕ)
+valuesOf code none = []
+valuesOf code (some os) = values code os
 
-abbrev pub atMostOnce : List (List ℕ) → List (List ℕ) → Checked
-atMostOnce kinds ids = cond (leb (length kinds) 1 && leb (length ids) 1) (good kinds ids) faulty
+abbrev pub valuesIn : ℕ → List ℕ → List (List ℕ)
+valuesIn code p = valuesOf code (options 0 (optionArea p))
 
-unfoldable pub checked : Option (List Opt) → Checked
-checked none = faulty
-checked (some os) = atMostOnce (values 53 os) (values 61 os)
+-- The options of a packet can be read, with the message type and the client id at most once each. If not, that is refusal 3.
+abbrev pub atMostOnce : Option (List Opt) → Bool
+atMostOnce none = false
+atMostOnce (some os) = leb (length (values messageType os)) 1 && leb (length (values clientId os)) 1
+
+unfoldable pub hasOptions : List ℕ → Bool
+hasOptions p = atMostOnce (options 0 (optionArea p))

@@ -1,6 +1,7 @@
--- The options as the inner functions walk them: by places in the packet. Only their contracts cite this.
+-- The options as the functions of this crate walk them: by places in the packet. Only contracts inside this crate cite this.
 use Prim.Native.Nat.{ℕ, _+_, _≤_}
-use mathlib.Core.Bool.{cond}
+use mathlib.Core.Path.{_≡_}
+use mathlib.Core.Bool.{true, false, cond}
 use mathlib.Core.List.{List, [], _∷_}
 use lib.Dec.{ltb, leb, eqb}
 use lib.ListN.{length, getD, take, drop}
@@ -11,7 +12,10 @@ use Rattle.leasepacket.specs.declared.options.Step.{Step}
 use Rattle.leasepacket.specs.declared.options.Step.the-variants.{More, Done, Broken}
 use Rattle.leasepacket.specs.declared.options.Walk.{Walk}
 use Rattle.leasepacket.specs.declared.options.Walk.the-variants.{Found, Faulty}
-use Rattle.leasepacket.specs.Options.{Checked, good, faulty}
+use Rattle.leasepacket.specs.Packet.{messageType, clientId}
+use Rattle.leasepacket.specs.Options.{valuesIn, hasOptions}
+use Rattle.leasepacket.specs.Query.{asking, firstOf, refusals, keyOf}
+use Rattle.leasepacket.specs.Reading.{idPlace}
 
 -- the message type or the client id is noted, unless one was noted before
 abbrev pub onceKind : Place → ℕ → ℕ → Place → Step
@@ -49,12 +53,28 @@ abbrev pub In : List ℕ → Place → Type 0
 In s Absent = Unit {0}
 In s (At a n) = a + n ≤ length s
 
--- a walk through the options in the terms of the definition
-abbrev pub meant : List ℕ → Walk → Checked
-meant s (Found p) = good (value s (p .kind)) (value s (p .id))
-meant s Faulty = faulty
+-- the options of a code in a packet are what stands at a place, inside the packet
+pub record ReadAs (code : ℕ) (p : List ℕ) (at : Place) : Type 0 where
+  pub are : valuesIn code p ≡ value p at
+  pub inside : In p at
 
--- all places that it found lie inside the packet
-abbrev pub Inside : List ℕ → Walk → Type 0
-Inside s (Found p) = In s (p .kind) × In s (p .id)
-Inside s Faulty = Unit {0}
+-- a place is the one of the client id, if there is one
+abbrev pub Stands : List ℕ → Place → Type 0
+Stands p Absent = Unit {0}
+Stands p (At a n) = a ≡ idPlace p
+
+-- what a walk through the options of a packet found
+abbrev pub Tells : List ℕ → Walk → Type 0
+Tells p (Found w) = (hasOptions p ≡ true) × ReadAs messageType p (w .kind) × ReadAs clientId p (w .id) × Stands p (w .id)
+Tells p Faulty = hasOptions p ≡ false
+
+-- the first n refusals do not apply to a packet
+abbrev pub Past : ℕ → List ℕ → Type 0
+Past n p = asking p ≡ firstOf (drop n (refusals p)) (keyOf p)
+
+-- nor, and its client id stands at a place
+pub record Passed (n : ℕ) (p : List ℕ) (id : Place) : Type 0 where
+  pub long : 240 ≤ length p
+  pub past : Past n p
+  pub ids : ReadAs clientId p id
+  pub stands : Stands p id

@@ -1,3 +1,4 @@
-// A lease query as it comes in a packet: its options, and what it asks for.
+// A lease query as it comes in a packet: its layout, its options, and what it asks for.
+pub mod layout;
 pub mod options;
 pub mod query;

@@ -1,9 +1,9 @@
 // The options of a lease query.
+use crate::layout;
 ghost use mathlib.Core.Path.{_≡_};
-ghost use lib.ListN.{length, drop};
+ghost use lib.ListN.{length};
 ghost use Prim.Native.Nat.{_+_, _≤_};
-ghost use Rattle.leasepacket.specs.Options.{options, checked};
-ghost use Rattle.leasepacket.specs.Places.{notedOf, stepOf, Inside, meant};
+ghost use Rattle.leasepacket.specs.Places.{notedOf, stepOf, Tells};
 
 // Where the value of an option lies in the packet: a place and a length.
 pub enum Place {
@@ -11,7 +11,7 @@ pub enum Place {
     At(usize, usize),
 }
 
-// The two options that a query is read by: message type (53) and client id (61).
+// The two options that a query is read by: message type and client id.
 pub struct Places {
     pub kind: Place,
     pub id: Place,
@@ -37,7 +37,7 @@ fn noted(code: u8, at: usize, len: usize, seen: Places) -> Step
 {
     let kind = seen.kind;
     let id = seen.id;
-    if code == 53 {
+    if code == layout::MESSAGE_TYPE {
         match kind {
             Place::Absent => Step::More(
                 at + len,
@@ -48,7 +48,7 @@ fn noted(code: u8, at: usize, len: usize, seen: Places) -> Step
             ),
             Place::At(_, _) => Step::Broken,
         }
-    } else if code == 61 {
+    } else if code == layout::CLIENT_ID {
         match id {
             Place::Absent => Step::More(
                 at + len,
@@ -74,10 +74,10 @@ fn option_at(s: &[u8], at: usize, seen: Places) -> Step
         return Step::Broken;
     }
     let code = s[at];
-    if code == 255 {
+    if code == layout::END {
         return Step::Done(seen);
     }
-    if code == 0 {
+    if code == layout::PAD {
         return Step::More(at + 1, seen);
     }
     if n <= at + 1 {
@@ -90,12 +90,12 @@ fn option_at(s: &[u8], at: usize, seen: Places) -> Step
     noted(code, at + 2, len, seen)
 }
 
-// The options of a packet from octet 240 on.
+// The options of a packet.
 pub(crate) fn read_all(s: &[u8]) -> Walk
     requires { ⌜ length (now s) ≤ 1500 ⌝ }
-    ensures { λ r. ⌜ (meant (now (s .entry)) r ≡ checked (options 0 (drop 240 (now (s .entry))))) × Inside (now (s .entry)) r ⌝ }
+    ensures { λ r. ⌜ Tells (now (s .entry)) r ⌝ }
 {
-    let mut at = 240;
+    let mut at = layout::OPTIONS;
     let mut seen = Places {
         kind: Place::Absent,
         id: Place::Absent,

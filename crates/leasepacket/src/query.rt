@@ -1,14 +1,18 @@
 // What a lease query asks for, or the first of the refusals 1 to 7 that applies.
+use crate::layout;
 use crate::options;
 use crate::options::Place;
 use crate::options::Walk;
 use octets::number;
 ghost use mathlib.Core.Path.{_≡_};
-ghost use lib.ListN.{length, drop};
+ghost use mathlib.Core.Bool.{true};
+ghost use lib.ListN.{length};
 ghost use Prim.Native.Nat.{_≤_};
-ghost use Rattle.leasepacket.specs.Options.{options, checked};
-ghost use Rattle.leasepacket.specs.Places.{In, value};
-ghost use Rattle.leasepacket.specs.Query.{anySet, asked, hardwareSet, hardware, keyed, relayed, typed, opened, asking};
+ghost use Rattle.leasepacket.specs.declared.options.Place.the-variants.{Absent};
+ghost use Rattle.leasepacket.specs.Packet.{isPacket, messageType};
+ghost use Rattle.leasepacket.specs.Query.{anySet, hasHardwareKey};
+ghost use Rattle.leasepacket.specs.Reading.{reading};
+ghost use Rattle.leasepacket.specs.Places.{ReadAs, Past, Passed};
 
 // What is asked for. A hardware address is that of the packet; a client id is told by its place and
 // length in the packet.
@@ -33,46 +37,48 @@ fn is_any_set(s: &[u8]) -> bool
     false
 }
 
-// Whether the packet has a hardware key.
-fn is_hardware_set(p: &[u8]) -> bool
+// Whether the packet has a hardware key: in htype and hlen, or in chaddr.
+fn has_hardware_key(p: &[u8]) -> bool
     requires { ⌜ 240 ≤ length (now p) ⌝ }
-    ensures { λ r. ⌜ r ≡ hardwareSet (now (p .entry)) ⌝ }
+    ensures { λ r. ⌜ r ≡ hasHardwareKey (now (p .entry)) ⌝ }
 {
-    if is_any_set(&p[1..3]) {
+    if is_any_set(&p[layout::HTYPE..layout::HOPS]) {
         return true;
     }
-    is_any_set(&p[28..44])
+    is_any_set(&p[layout::CHADDR..layout::SNAME])
 }
 
 // The hardware key, the only one.
 fn by_hardware(p: &[u8]) -> Query
-    requires { ⌜ 240 ≤ length (now p) ⌝ }
-    ensures { λ r. ⌜ asked (now (p .entry)) r ≡ hardware (now (p .entry)) ⌝ }
+    requires { ⌜ Passed 6 (now p) Absent × (hasHardwareKey (now p) ≡ true) ⌝ }
+    ensures { λ r. ⌜ r ≡ reading (now (p .entry)) ⌝ }
 {
-    let hlen = p[2];
+    let hlen = p[layout::HLEN];
     if hlen == 0 {
         return Query::Refused(7);
     }
-    if 16 < hlen {
+    if layout::LONGEST_HARDWARE < hlen {
         return Query::Refused(7);
     }
-    Query::ByHardware(p[1], hlen)
+    Query::ByHardware(p[layout::HTYPE], hlen)
 }
 
 // The key: there must be exactly one.
-fn by_key(p: &[u8], address: u32, hw: bool, id: Place) -> Query
-    requires { ⌜ (240 ≤ length (now p)) × In (now p) id ⌝ }
-    ensures { λ r. ⌜ asked (now (p .entry)) r ≡ keyed (now (p .entry)) address hw (value (now (p .entry)) id) ⌝ }
+fn by_key(p: &[u8], id: Place) -> Query
+    requires { ⌜ Passed 5 (now p) id ⌝ }
+    ensures { λ r. ⌜ r ≡ reading (now (p .entry)) ⌝ }
 {
+    let address = number::u32_at(p, layout::CIADDR);
+    let hardware = has_hardware_key(p);
     match id {
         Place::Absent => {
             if address == 0 {
-                if hw {
+                if hardware {
                     return by_hardware(p);
                 }
                 return Query::Refused(6);
             }
-            if hw {
+            if hardware {
                 return Query::Refused(6);
             }
             Query::ByAddress(address)
@@ -81,10 +87,10 @@ fn by_key(p: &[u8], address: u32, hw: bool, id: Place) -> Query
             if address != 0 {
                 return Query::Refused(6);
             }
-            if hw {
+            if hardware {
                 return Query::Refused(6);
             }
-            if n < 2 {
+            if n < layout::SHORTEST_CLIENT_ID {
                 return Query::Refused(7);
             }
             Query::ByClientId(at, n)
@@ -94,21 +100,19 @@ fn by_key(p: &[u8], address: u32, hw: bool, id: Place) -> Query
 
 // The relay agent that asks must be named.
 fn from_relay(p: &[u8], id: Place) -> Query
-    requires { ⌜ (240 ≤ length (now p)) × In (now p) id ⌝ }
-    ensures { λ r. ⌜ asked (now (p .entry)) r ≡ relayed (now (p .entry)) (value (now (p .entry)) id) ⌝ }
+    requires { ⌜ Passed 4 (now p) id ⌝ }
+    ensures { λ r. ⌜ r ≡ reading (now (p .entry)) ⌝ }
 {
-    if number::u32_at(p, 24) == 0 {
+    if number::u32_at(p, layout::GIADDR) == 0 {
         return Query::Refused(5);
     }
-    let address = number::u32_at(p, 12);
-    let hw = is_hardware_set(p);
-    by_key(p, address, hw, id)
+    by_key(p, id)
 }
 
 // The message must be a lease query.
 fn of_type(p: &[u8], kind: Place, id: Place) -> Query
-    requires { ⌜ (240 ≤ length (now p)) × In (now p) kind × In (now p) id ⌝ }
-    ensures { λ r. ⌜ asked (now (p .entry)) r ≡ typed (now (p .entry)) (value (now (p .entry)) kind) (value (now (p .entry)) id) ⌝ }
+    requires { ⌜ ReadAs messageType (now p) kind × Passed 3 (now p) id ⌝ }
+    ensures { λ r. ⌜ r ≡ reading (now (p .entry)) ⌝ }
 {
     match kind {
         Place::Absent => Query::Refused(4),
@@ -116,7 +120,7 @@ fn of_type(p: &[u8], kind: Place, id: Place) -> Query
             if n != 1 {
                 return Query::Refused(4);
             }
-            if p[at] != 10 {
+            if p[at] != layout::DHCPLEASEQUERY {
                 return Query::Refused(4);
             }
             from_relay(p, id)
@@ -126,8 +130,8 @@ fn of_type(p: &[u8], kind: Place, id: Place) -> Query
 
 // The options must be in order.
 fn by_options(p: &[u8]) -> Query
-    requires { ⌜ (240 ≤ length (now p)) × (length (now p) ≤ 1500) ⌝ }
-    ensures { λ r. ⌜ asked (now (p .entry)) r ≡ opened (now (p .entry)) (checked (options 0 (drop 240 (now (p .entry))))) ⌝ }
+    requires { ⌜ (240 ≤ length (now p)) × (length (now p) ≤ 1500) × Past 2 (now p) ⌝ }
+    ensures { λ r. ⌜ r ≡ reading (now (p .entry)) ⌝ }
 {
     match options::read_all(p) {
         Walk::Faulty => Query::Refused(3),
@@ -139,21 +143,27 @@ fn by_options(p: &[u8]) -> Query
     }
 }
 
+// Whether octets are a packet: as many as a packet has, with the cookie.
+pub fn is_packet(p: &[u8]) -> bool
+    ensures { λ r. ⌜ r ≡ isPacket (now (p .entry)) ⌝ }
+{
+    if p.len() < layout::OPTIONS {
+        return false;
+    }
+    if layout::LONGEST < p.len() {
+        return false;
+    }
+    number::u32_at(p, layout::MAGIC_COOKIE) == layout::COOKIE
+}
+
 // A packet as a lease query.
 pub fn read(p: &[u8]) -> Query
-    ensures { λ r. ⌜ asked (now (p .entry)) r ≡ asking (now (p .entry)) ⌝ }
+    ensures { λ r. ⌜ r ≡ reading (now (p .entry)) ⌝ }
 {
-    let n = p.len();
-    if n < 240 {
+    if !is_packet(p) {
         return Query::Refused(1);
     }
-    if 1500 < n {
-        return Query::Refused(1);
-    }
-    if number::u32_at(p, 236) != 1669485411 {
-        return Query::Refused(1);
-    }
-    if p[0] != 1 {
+    if number::octet_at(p, layout::OP) != layout::BOOTREQUEST {
         return Query::Refused(2);
     }
     by_options(p)

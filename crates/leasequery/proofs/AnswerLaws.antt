@@ -15,7 +15,7 @@ use Rattle.octets.specs.Write.{laid}
 use Rattle.lease.specs.declared.Lease.{Lease}
 use Rattle.lease.specs.declared.Rank.{Rank}
 use Rattle.lease.specs.Lease.{noLease, activeAt, hasHardware, hasClientId, rankOf}
-use Rattle.leasepacket.specs.Query.{Asked, refused, byAddress, byHardware, byClientId}
+use Rattle.leasepacket.specs.Query.{Asked, refused, byAddress, byHardware, byClientId, firstOf}
 use Rattle.leasepacket.proofs.QueryLaws.{Sound, asking-sound}
 use Rattle.leasetable.specs.declared.client.Key.{Key}
 use Rattle.leasetable.specs.declared.record.Record.{Record}
@@ -144,7 +144,7 @@ fit-rises t e = go (leb (length t) 256) (risesFrom 0 t) e
     go false b h = absurd (let z : _≡_ {A = ℕ} 1 0 = ap (λ (c : Bool). cond c 1 0) h in omega (arith, z))
 
 asked-sound : (clock : Moment) (t : List Lease) (ps : List ℕ) (room : ℕ) → Sound ps (askedOf clock t ps room) × (refusalIn (askedOf clock t ps room) ≡ 0 → (648 ≤ room) × (risesFrom 0 t ≡ true))
-unfolding askedOf
+unfolding askedOf firstOf
 asked-sound clock t ps room =
     cases (not (isMoment clock)) (λ e. rw e ((λ z. omega (arith, z)), (λ z. absurd (omega (arith, z)))))
     (λ e. cases (not (tableFits t)) (λ f. rw (e, f) ((λ z. omega (arith, z)), (λ z. absurd (omega (arith, z)))))
@@ -155,7 +155,7 @@ abbrev pub keptForm : List Lease → Bool
 keptForm t = leb (length t) 256 && (foldl formTurn formStart t) .ok
 
 same-asked : (clock : Moment) (t : List Lease) (ps : List ℕ) (room : ℕ) → askedAt clock (keptForm t) ps room ≡ askedOf clock t ps room
-unfolding askedAt askedOf
+unfolding askedAt askedOf firstOf
 same-asked clock t ps room = rw (form-whole t)
 
 pub answered : (clock : Moment) (ys : List Lease) (server : ℕ) (ps os : List ℕ) → concluded (looked (noCandidates clock (refusalIn (askedAt clock (keptForm ys) ps (length os))) (keyFor (askedAt clock (keptForm ys) ps (length os)))) ys) server ps os ≡ answer clock ys server ps (length os)

@@ -1,3 +1,4 @@
 -- Laws that belong to no one function. Crates above cite the definitions through these.
 pub mod AnswerLaws
+pub mod PromiseLaws
 pub mod StageLaws

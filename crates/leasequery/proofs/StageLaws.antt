@@ -1,4 +1,4 @@
--- The laws of what the inner functions hand on. Assumes nothing.
+-- The laws of what the functions below the exported call hand on. Assumes nothing.
 use Prim.Native.Nat.{ℕ, _-_, _≤_, _<_, min}
 use mathlib.Core.Path.{_≡_, refl, sym, ap, _∙_}
 use mathlib.Core.List.{List, [], _∷_}
@@ -10,7 +10,7 @@ use Rattle.octets.specs.Write.{laid, Laid}
 use Rattle.octets.proofs.WriteLaws.{written, put-front, laid-nothing}
 use Rattle.lease.specs.Lease.{activeAt}
 use Rattle.lease.proofs.ListLaws.{take-min}
-use Rattle.leasepacket.specs.Query.{part}
+use Rattle.leasepacket.specs.Packet.{part}
 use Rattle.leasetable.specs.declared.look.Found.{Found}
 use Rattle.leasequery.specs.Answer.{refusal}
 use Rattle.leasequery.specs.Stages.{padded, otherOf, activeOf, concluded}

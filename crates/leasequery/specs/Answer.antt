@@ -8,7 +8,7 @@ use Rattle.clock.specs.declared.Moment.{Moment}
 use Rattle.clock.specs.Clock.{isMoment}
 use Rattle.lease.specs.declared.Lease.{Lease}
 use Rattle.lease.specs.Lease.{activeAt, hasHardware, hasClientId}
-use Rattle.leasepacket.specs.Query.{Asked, refused, byAddress, byHardware, byClientId, asking}
+use Rattle.leasepacket.specs.Query.{Asked, refused, byAddress, byHardware, byClientId, firstOf, asking}
 use Rattle.leasetable.specs.Table.{tableFits, those, ranked}
 use Rattle.leasereply.specs.Reply.{otherReply, activeReply}
 use Rattle.leasequery.specs.declared.LeaseAnswer.{LeaseAnswer}
@@ -70,9 +70,7 @@ module _ (clock : Moment) (server : ℕ) (query : List ℕ) where
 -- The first refusal that applies: 15, 9, 8, then those of the packet; or the key.
 unfoldable pub askedOf : Moment → List Lease → List ℕ → ℕ → Asked
 askedOf clock table query room =
-    cond (not (isMoment clock)) (refused 15)
-    (cond (not (tableFits table)) (refused 9)
-    (cond (ltb room 648) (refused 8) (asking query)))
+    firstOf ((15, not (isMoment clock)) ∷ (9, not (tableFits table)) ∷ (8, ltb room 648) ∷ []) (asking query)
 
 -- The whole call; room is the length of the buffer.
 unfoldable pub answer : Moment → List Lease → ℕ → List ℕ → ℕ → Outcome

@@ -1,3 +1,4 @@
--- The definitions that the contracts cite. Stages is for the contracts of inner functions only.
+-- The definitions that the contracts cite. Stages is for the contracts of functions that are not exported.
 pub mod Answer
+pub mod Promise
 pub mod Stages

@@ -1,14 +1,14 @@
--- What the inner functions hand on. Only their contracts cite this.
+-- What the functions below the exported call hand on. Only their contracts cite this.
 use Prim.Native.Nat.{ℕ, min}
 use mathlib.Core.Bool.{Bool, cond, not}
-use mathlib.Core.List.{List}
+use mathlib.Core.List.{List, [], _∷_}
 use lib.Dec.{ltb, eqb}
 use lib.ListN.{length, replicate}
 use Rattle.clock.specs.declared.Moment.{Moment}
 use Rattle.clock.specs.Clock.{isMoment}
 use Rattle.octets.specs.Write.{laid}
 use Rattle.lease.specs.Lease.{activeAt}
-use Rattle.leasepacket.specs.Query.{Asked, refused, byAddress, byHardware, byClientId, asking}
+use Rattle.leasepacket.specs.Query.{Asked, refused, byAddress, byHardware, byClientId, firstOf, asking}
 use Rattle.leasetable.specs.declared.client.Key.{Key}
 use Rattle.leasetable.specs.declared.candidates.Candidates.{Candidates}
 use Rattle.leasetable.specs.declared.look.Found.{Found}
@@ -56,9 +56,7 @@ noCandidates clock n key =
 -- the first refusal that applies, or the key, from whether the table keeps its form
 unfoldable pub askedAt : Moment → Bool → List ℕ → ℕ → Asked
 askedAt clock ok query room =
-    cond (not (isMoment clock)) (refused 15)
-    (cond (not ok) (refused 9)
-    (cond (ltb room 648) (refused 8) (asking query)))
+    firstOf ((15, not (isMoment clock)) ∷ (9, not ok) ∷ (8, ltb room 648) ∷ []) (asking query)
 
 -- the reply of a kind that tells of no lease, and that which tells of an active one, with the addresses of the first n ranks
 abbrev pub otherOf : ℕ → ℕ → List ℕ → List ℕ → Outcome

@@ -1,8 +1,10 @@
 // What a query has looked for in the table, or the refusal because of which nothing is looked for.
 use clock::Moment;
 use lease::Rank;
+use leasepacket::layout;
 use leasepacket::query;
 use leasepacket::query::Query;
+use leasereply::reply;
 use leasetable::candidates::Candidates;
 use leasetable::client::Key;
 use leasetable::form::Form;
@@ -11,8 +13,12 @@ ghost use mathlib.Core.Path.{_≡_};
 ghost use mathlib.Core.Bool.{_&&_};
 ghost use lib.Dec.{leb};
 ghost use Prim.Native.Nat.{_-_, min};
-ghost use Rattle.leasepacket.specs.Query.{part, asked};
+ghost use Rattle.leasepacket.specs.Packet.{part};
+ghost use Rattle.leasepacket.specs.Reading.{asked};
 ghost use Rattle.leasequery.specs.Stages.{padded, keyFor, idKey, refusalIn, noCandidates, askedAt};
+
+// The most records that a table has.
+const LONGEST_TABLE: usize = 256;
 
 // How many of n octets from a place on there are.
 fn available(len: usize, at: usize, n: usize) -> usize
@@ -79,7 +85,7 @@ fn key_for(p: &[u8], q: Query) -> Key
             octets: none,
         },
         Query::ByHardware(htype, hlen) => {
-            let octets = octets_from(p, 28, 16);
+            let octets = octets_from(p, layout::CHADDR, 16);
             Key {
                 kind: 2,
                 htype,
@@ -126,7 +132,7 @@ fn start(clock: Moment, refusal: u32, key: Key) -> Candidates
 fn does_fit(table: Form, count: usize) -> bool
     ensures { λ r. ⌜ r ≡ (leb count 256 && table .ok) ⌝ }
 {
-    if 256 < count {
+    if LONGEST_TABLE < count {
         return false;
     }
     table.ok
@@ -142,7 +148,7 @@ fn first_refusal(clock: Moment, ok: bool, p: &[u8], room: usize) -> Query
     if !ok {
         return Query::Refused(9);
     }
-    if room < 648 {
+    if room < reply::ROOM {
         return Query::Refused(8);
     }
     query::read(p)

@@ -3,14 +3,13 @@ use crate::LeaseAnswer;
 use clock::Moment;
 use lease::Lease;
 use lease::Rank;
-use lease::key;
+use lease::activity;
+use leasepacket::layout;
 use leasereply::reply;
 use leasetable::look::Found;
 ghost use mathlib.Core.Path.{_≡_};
-ghost use lib.ListN.{length};
 ghost use Prim.Native.Nat.{_≤_};
-ghost use Rattle.octets.specs.Write.{laid};
-ghost use Rattle.leasequery.specs.Answer.{told, written};
+ghost use Rattle.leasequery.specs.Promise.{Gives};
 ghost use Rattle.leasequery.specs.Stages.{otherOf, activeOf, concluded};
 
 // A reply of a length was written.
@@ -27,7 +26,7 @@ fn replied(kind: u32, n: usize) -> LeaseAnswer
 
 // LEASEUNASSIGNED or LEASEUNKNOWN.
 fn other(kind: u8, server: u32, query: &[u8], buf: &mut [u8]) -> LeaseAnswer
-    ensures { λ r. ⌜ (r ≡ told (otherOf kind server (now (query .entry)) (now (buf .entry)))) × (now (buf .exit) ≡ laid (written (otherOf kind server (now (query .entry)) (now (buf .entry)))) (now (buf .entry))) ⌝ }
+    ensures { λ r. ⌜ Gives (otherOf kind server (now (query .entry)) (now (buf .entry))) (now (buf .entry)) r (now (buf .exit)) ⌝ }
 {
     let n = reply::write_other(buf, kind, server, query);
     replied(kind as u32, n)
@@ -35,18 +34,18 @@ fn other(kind: u8, server: u32, query: &[u8], buf: &mut [u8]) -> LeaseAnswer
 
 // LEASEACTIVE, with the addresses of the first n ranks where they are two or more.
 fn active(f: Found, n: usize, server: u32, query: &[u8], buf: &mut [u8]) -> LeaseAnswer
-    ensures { λ r. ⌜ (r ≡ told (activeOf f n server (now (query .entry)) (now (buf .entry)))) × (now (buf .exit) ≡ laid (written (activeOf f n server (now (query .entry)) (now (buf .entry)))) (now (buf .entry))) ⌝ }
+    ensures { λ r. ⌜ Gives (activeOf f n server (now (query .entry)) (now (buf .entry))) (now (buf .entry)) r (now (buf .exit)) ⌝ }
 {
     let clock = f.clock;
     let best = f.best;
     let ranks = f.ranks;
     let len = reply::write_active(buf, clock, server, query, best, ranks, n);
-    replied(13, len)
+    replied(layout::DHCPLEASEACTIVE as u32, len)
 }
 
 // The whole answer.
 pub fn conclude(f: Found, server: u32, query: &[u8], buf: &mut [u8]) -> LeaseAnswer
-    ensures { λ r. ⌜ (r ≡ told (concluded f server (now (query .entry)) (now (buf .entry)))) × (now (buf .exit) ≡ laid (written (concluded f server (now (query .entry)) (now (buf .entry)))) (now (buf .entry))) ⌝ }
+    ensures { λ r. ⌜ Gives (concluded f server (now (query .entry)) (now (buf .entry))) (now (buf .entry)) r (now (buf .exit)) ⌝ }
 {
     if f.refusal != 0 {
         return LeaseAnswer {
@@ -57,14 +56,14 @@ pub fn conclude(f: Found, server: u32, query: &[u8], buf: &mut [u8]) -> LeaseAns
     }
     let best = f.best;
     if best.address == 0 {
-        return other(12, server, query, buf);
+        return other(layout::DHCPLEASEUNKNOWN, server, query, buf);
     }
     if f.kind != 1 {
         return active(f, f.kept, server, query, buf);
     }
     let clock = f.clock;
-    if key::is_active(best, clock) {
+    if activity::is_active(best, clock) {
         return active(f, 0, server, query, buf);
     }
-    other(11, server, query, buf)
+    other(layout::DHCPLEASEUNASSIGNED, server, query, buf)
 }

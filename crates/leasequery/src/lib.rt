@@ -3,10 +3,7 @@ use clock::Moment;
 use lease::Lease;
 use leasetable::form;
 use leasetable::look;
-ghost use mathlib.Core.Path.{_≡_};
-ghost use lib.ListN.{length};
-ghost use Rattle.octets.specs.Write.{laid};
-ghost use Rattle.leasequery.specs.Answer.{answer, told, written};
+ghost use Rattle.leasequery.specs.Promise.{LeasePromise};
 
 pub mod ask;
 pub mod conclude;
@@ -30,7 +27,7 @@ pub extern "C" fn jespurla_lease_query(
     query: &[u8],
     reply: &mut [u8],
 ) -> LeaseAnswer
-    ensures { λ r. ⌜ (r ≡ told (answer clock (now (table .entry)) server (now (query .entry)) (length (now (reply .entry))))) × (now (reply .exit) ≡ laid (written (answer clock (now (table .entry)) server (now (query .entry)) (length (now (reply .entry))))) (now (reply .entry))) ⌝ }
+    ensures { λ r. ⌜ LeasePromise clock (now (table .entry)) server (now (query .entry)) (now (reply .entry)) r (now (reply .exit)) ⌝ }
 {
     let shape = form::scan(table, form::start());
     let room = reply.len();

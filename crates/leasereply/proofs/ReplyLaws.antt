@@ -19,8 +19,8 @@ use Rattle.octets.proofs.NumberLaws.{length-big-endian}
 use Rattle.octets.proofs.WriteLaws.{nothing, more, put-front}
 use Rattle.lease.specs.declared.Lease.{Lease}
 use Rattle.lease.specs.declared.Rank.{Rank}
-use Rattle.leasepacket.specs.Query.{part}
-use Rattle.leasereply.specs.Reply.{fixed, option, optional, ofLease, flat, otherReply, activeReply, addressesOf, listed, fitting}
+use Rattle.leasepacket.specs.Packet.{part}
+use Rattle.leasereply.specs.Reply.{fixed, option, optional, ofLease, flat, otherReply, activeReply, addressesOf, listed, Wrote}
 
 -- ---- options that may be left out
 pub some : (code : ℕ) (v : List ℕ) → 0 < length v → option code v ≡ optional code v
@@ -104,18 +104,22 @@ active-short clock server q x addresses p r h =
 
 -- ---- what a writer did, by whether query and buffer are long enough
 module _ (q b : List ℕ) where
-  pub fits-not-query : (w : List ℕ) → length q < 240 → (_≡_ {A = ℕ} 0 (length (fitting q b w))) × (b ≡ laid (fitting q b w) b) × (0 ≤ 648)
+  pub fits-not-query : (w : List ℕ) → length q < 240 → Wrote q b w 0 b
   unfolding laid
-  fits-not-query w h = (rw (lt-ltb (length q) 240 h), rw (lt-ltb (length q) 240 h), omega arith)
+  fits-not-query w h = record { answers = rw (lt-ltb (length q) 240 h); holds = rw (lt-ltb (length q) 240 h); few = omega arith }
 
-  pub fits-not-buffer : (w : List ℕ) → 240 ≤ length q → length b < 648 → (_≡_ {A = ℕ} 0 (length (fitting q b w))) × (b ≡ laid (fitting q b w) b) × (0 ≤ 648)
+  pub fits-not-buffer : (w : List ℕ) → 240 ≤ length q → length b < 648 → Wrote q b w 0 b
   unfolding laid
-  fits-not-buffer w h k = (rw (le-ltb (length q) 240 h, lt-ltb (length b) 648 k), rw (le-ltb (length q) 240 h, lt-ltb (length b) 648 k), omega arith)
+  fits-not-buffer w h k = record { answers = rw (le-ltb (length q) 240 h, lt-ltb (length b) 648 k); holds = rw (le-ltb (length q) 240 h, lt-ltb (length b) 648 k); few = omega arith }
 
-  pub fits : (w l : List ℕ) (n : ℕ) → 240 ≤ length q → 648 ≤ length b → length w ≤ 648 → WroteIf b 0 w l n → (n ≡ length (fitting q b w)) × (l ≡ laid (fitting q b w) b) × (n ≤ 648)
+  pub fits : (w l : List ℕ) (n : ℕ) → 240 ≤ length q → 648 ≤ length b → length w ≤ 648 → WroteIf b 0 w l n → Wrote q b w n l
   fits w l n h k s v =
       let r = v .fit (omega arith) in
-      rw (le-ltb (length q) 240 h, le-ltb (length b) 648 k) (r .next ∙ zero-add (length w), r .list ∙ put-front b w, omega (arith, r .next, s))
+      record {
+        answers = rw (le-ltb (length q) 240 h, le-ltb (length b) 648 k) (r .next ∙ zero-add (length w));
+        holds = rw (le-ltb (length q) 240 h, le-ltb (length b) 648 k) (r .list ∙ put-front b w);
+        few = omega (arith, r .next, s);
+      }
 
 listed-short : (n : ℕ) (ranks : List Rank) → length (listed n ranks) ≤ 63
 listed-short n ranks = go (ltb n 2 || ltb 63 n) refl

@@ -2,6 +2,7 @@
 use clock::Moment;
 use lease::Lease;
 use lease::Rank;
+use leasepacket::layout;
 use octets::write;
 ghost use mathlib.Core.Path.{_≡_};
 ghost use mathlib.Core.List.{[], _∷_};
@@ -15,7 +16,7 @@ ghost use Rattle.leasereply.specs.Reply.{option, optional, addressesOf, 
 pub(crate) fn put_kind(buf: &mut [u8], at: usize, kind: u8) -> usize
     ensures { λ r. ⌜ WroteIf (now (buf .entry)) at (option 53 (kind ∷ [])) (now (buf .exit)) r ⌝ }
 {
-    let a = write::put_octet(buf, at, 53);
+    let a = write::put_octet(buf, at, layout::MESSAGE_TYPE);
     let b = write::put_octet(buf, a, 1);
     write::put_octet(buf, b, kind)
 }
@@ -56,14 +57,14 @@ pub(crate) fn put_lease(buf: &mut [u8], at: usize, clock: Moment, x: Lease) -> u
 {
     let expiry = x.expiry;
     let left = clock::seconds_left(expiry, clock);
-    let a = put_number(buf, at, 51, left.0);
+    let a = put_number(buf, at, layout::LEASE_TIME, left.0);
     let id = x.id;
-    let b = put_optional(buf, a, 61, id, x.idlen);
+    let b = put_optional(buf, a, layout::CLIENT_ID, id, x.idlen);
     let relay = x.relay;
-    let c = put_optional(buf, b, 82, relay, x.relaylen);
+    let c = put_optional(buf, b, layout::RELAY_INFORMATION, relay, x.relaylen);
     let last = x.last;
     let since = clock::seconds_since(last, clock);
-    put_number(buf, c, 91, since.0)
+    put_number(buf, c, layout::LAST_TRANSACTION_TIME, since.0)
 }
 
 // The lower four octets of a number, which are all of an address.
@@ -98,7 +99,7 @@ pub(crate) fn put_listed(buf: &mut [u8], at: usize, ranks: [Rank; 63], n: usize)
     if 63 < n {
         return at;
     }
-    let a = write::put_octet(buf, at, 92);
+    let a = write::put_octet(buf, at, layout::ASSOCIATED_IP);
     let b = write::put_octet(buf, a, (4 * n) as u8);
     put_addresses(buf, b, ranks, n)
 }

@@ -4,14 +4,17 @@ use crate::options;
 use clock::Moment;
 use lease::Lease;
 use lease::Rank;
+use leasepacket::layout;
 use octets::number;
 use octets::write;
-ghost use mathlib.Core.Path.{_≡_};
 ghost use lib.ListN.{length, take};
 ghost use Prim.Native.Nat.{_≤_};
 ghost use Rattle.octets.specs.Number.{bigEndian};
-ghost use Rattle.octets.specs.Write.{laid, WroteIf};
-ghost use Rattle.leasereply.specs.Reply.{fixed, otherReply, activeReply, listed, fitting};
+ghost use Rattle.octets.specs.Write.{WroteIf};
+ghost use Rattle.leasereply.specs.Reply.{fixed, otherReply, activeReply, listed, Wrote};
+
+// The octets that the longest reply has, and that a buffer must have for any.
+pub const ROOM: usize = 648;
 
 // LEASEUNASSIGNED (11) or LEASEUNKNOWN (12).
 fn put_other(buf: &mut [u8], kind: u8, server: u32, query: &[u8]) -> usize
@@ -21,14 +24,14 @@ fn put_other(buf: &mut [u8], kind: u8, server: u32, query: &[u8]) -> usize
     let a = fixed::put_fixed(
         buf,
         query,
-        query[1],
-        query[2],
-        &query[12..16],
-        &query[28..44],
+        query[layout::HTYPE],
+        query[layout::HLEN],
+        &query[layout::CIADDR..layout::YIADDR],
+        &query[layout::CHADDR..layout::SNAME],
     );
     let b = options::put_kind(buf, a, kind);
-    let c = options::put_number(buf, b, 54, server);
-    write::put_octet(buf, c, 255)
+    let c = options::put_number(buf, b, layout::SERVER_ID, server);
+    write::put_octet(buf, c, layout::END)
 }
 
 // The fixed fields with those of a record.
@@ -55,21 +58,21 @@ fn put_active(
     ensures { λ r. ⌜ WroteIf (now (buf .entry)) 0 (activeReply clock server (now (query .entry)) x (listed n ranks)) (now (buf .exit)) r ⌝ }
 {
     let a = put_record(buf, query, x);
-    let b = options::put_kind(buf, a, 13);
-    let c = options::put_number(buf, b, 54, server);
+    let b = options::put_kind(buf, a, layout::DHCPLEASEACTIVE);
+    let c = options::put_number(buf, b, layout::SERVER_ID, server);
     let d = options::put_lease(buf, c, clock, x);
     let e = options::put_listed(buf, d, ranks, n);
-    write::put_octet(buf, e, 255)
+    write::put_octet(buf, e, layout::END)
 }
 
 // The reply to a query that is not about an active lease, if query and buffer are long enough.
 pub fn write_other(buf: &mut [u8], kind: u8, server: u32, query: &[u8]) -> usize
-    ensures { λ r. ⌜ (r ≡ length (fitting (now (query .entry)) (now (buf .entry)) (otherReply kind server (now (query .entry))))) × (now (buf .exit) ≡ laid (fitting (now (query .entry)) (now (buf .entry)) (otherReply kind server (now (query .entry)))) (now (buf .entry))) × (r ≤ 648) ⌝ }
+    ensures { λ r. ⌜ Wrote (now (query .entry)) (now (buf .entry)) (otherReply kind server (now (query .entry))) r (now (buf .exit)) ⌝ }
 {
-    if query.len() < 240 {
+    if query.len() < layout::OPTIONS {
         return 0;
     }
-    if buf.len() < 648 {
+    if buf.len() < ROOM {
         return 0;
     }
     put_other(buf, kind, server, query)
@@ -85,12 +88,12 @@ pub fn write_active(
     ranks: [Rank; 63],
     n: usize,
 ) -> usize
-    ensures { λ r. ⌜ (r ≡ length (fitting (now (query .entry)) (now (buf .entry)) (activeReply clock server (now (query .entry)) x (listed n ranks)))) × (now (buf .exit) ≡ laid (fitting (now (query .entry)) (now (buf .entry)) (activeReply clock server (now (query .entry)) x (listed n ranks))) (now (buf .entry))) × (r ≤ 648) ⌝ }
+    ensures { λ r. ⌜ Wrote (now (query .entry)) (now (buf .entry)) (activeReply clock server (now (query .entry)) x (listed n ranks)) r (now (buf .exit)) ⌝ }
 {
-    if query.len() < 240 {
+    if query.len() < layout::OPTIONS {
         return 0;
     }
-    if buf.len() < 648 {
+    if buf.len() < ROOM {
         return 0;
     }
     put_active(buf, clock, server, query, x, ranks, n)

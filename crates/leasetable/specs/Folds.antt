@@ -1,4 +1,4 @@
--- What the scans carry from record to record. Only the contracts of the scans and their steps cite this.
+-- What the scans carry from record to record. Only the contracts of the scans, of their steps and of `look` cite this; none is exported.
 -- Of each scan: `Off` where it has nothing to look for, `Wants` where a record is to be noted, `Add` the record noted, and `Turn`, one turn of its loop.
 use Prim.Native.Nat.{ℕ, _+_, min}
 use mathlib.Core.Bool.{Bool, true, false, cond, _&&_}

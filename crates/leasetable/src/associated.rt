@@ -4,6 +4,7 @@ use crate::client::Key;
 use clock::Moment;
 use lease::Lease;
 use lease::Rank;
+use lease::activity;
 use lease::key;
 use lease::order;
 ghost use mathlib.Core.Path.{_≡_};
@@ -56,7 +57,7 @@ fn does_want(a: Associated, x: Lease) -> bool
         return false;
     }
     let clock = a.clock;
-    key::is_active(x, clock)
+    activity::is_active(x, clock)
 }
 
 // A rank is put in its place among those kept, and of 64 the last is dropped.

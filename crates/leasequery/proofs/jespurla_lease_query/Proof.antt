@@ -1,6 +1,6 @@
 -- `jespurla_lease_query` meets its promise: a walk of its MIR, by hand: five calls. The lent slices are Copy: what each owns is had twice, one for the callee
 -- and one for the exit. `reply` goes to `conclude` for good, at its own lifetime, share and name. Assumes nothing.
-use mathlib.Core.Path.{_≡_, refl, _∙_, ap}
+use mathlib.Core.Path.{_≡_, refl, _∙_, ap, subst}
 use Prim.Native.Nat.{ℕ}
 use mathlib.Core.Bool.{_&&_}
 use mathlib.Core.List.{[], _∷_, List, foldl}
@@ -38,7 +38,6 @@ use denote.Triple.Clauses.{ensured, lasts}
 use denote.Triple.Table.{entered, cited}
 use denote.Triple.Walked.{says, Stays, stay-none, stay-none-slice, gave-slice, walkOf, goes-none, goes-none-slice, goes-gave-slice, Walks, ends-at, walked, walk-meets}
 use denote.Exit.{yes}
-use Rattle.octets.specs.Write.{laid}
 use Rattle.clock.specs.declared.Moment.{Moment}
 use Rattle.lease.specs.declared.Lease.{Lease}
 use Rattle.leasetable.specs.declared.form.Form.{Form}
@@ -46,7 +45,8 @@ use Rattle.leasetable.specs.declared.candidates.Candidates.{Candidates}
 use Rattle.leasetable.specs.declared.look.Found.{Found}
 use Rattle.leasetable.specs.Folds.{formStart, formTurn, looked}
 use Rattle.leasequery.specs.declared.LeaseAnswer.{LeaseAnswer}
-use Rattle.leasequery.specs.Answer.{Outcome, answer, told, written}
+use Rattle.leasequery.specs.Answer.{Outcome, answer}
+use Rattle.leasequery.specs.Promise.{Gives, LeasePromise}
 use Rattle.leasequery.specs.Stages.{refusalIn, keyFor, noCandidates, askedAt, concluded}
 use Rattle.leasequery.proofs.AnswerLaws.{answered}
 use Rattle.lease.proofs.Lease as T
@@ -241,20 +241,20 @@ module _ {M : Type 1} (𝓤 : URA M) (H : Heap 𝓤) (A : Atoms 𝓤) (W : Given
     asked₄ = qed W (Tok ∷ ‵ (fsep Own₁ (fsep Own₂ ftrue)) ∷ []) ∵ owned ! u32 (Is u32) (uint-makes 𝓤 H A W w32) server _ iv $ move ! (0 ∷ 2 ∷ []) $ fjoin ! $ owned ! Fo.the-row (Is Fo.the-row) (LL.makes Fo.the-type Fo′.the-plain 𝓤 H A) h _ is $ fjoin ! $ move ! (1 ∷ 0 ∷ []) $ join ! $ frame ! $ done !
 
     abbrev Said : LeaseAnswer → List ℕ → Type 0
-    Said r zs = (r ≡ told (concluded h server ps os)) × (zs ≡ laid (written (concluded h server ps os)) os)
+    Said r zs = Gives (concluded h server ps os) os r zs
 
   abbrev Ends : LeaseAnswer → List ℕ → Type 0
-  Ends r zs = (r ≡ told (answer clock ys server ps (length os))) × (zs ≡ laid (written (answer clock ys server ps (length os))) os)
+  Ends r zs = LeasePromise clock ys server ps os r zs
 
   -- what the calls say, put together
   whole-said : (k h : Form) (w : Candidates) (z : Found) (r : LeaseAnswer) (zs : List ℕ) → k ≡ formStart → h ≡ foldl formTurn k ys → w ≡ noCandidates clock (refusalIn (askedAt clock (leb (length ys) 256 && h .ok) ps (length os))) (keyFor (askedAt clock (leb (length ys) 256 && h .ok) ps (length os))) → z ≡ looked w ys
-      → (r ≡ told (concluded z server ps os)) × (zs ≡ laid (written (concluded z server ps os)) os) → Ends r zs
+      → Gives (concluded z server ps os) os r zs → Ends r zs
   whole-said k h w z r zs e₀ e₁ e₂ e₃ e₄ =
       let f : h ≡ foldl formTurn formStart ys = e₁ ∙ ap (λ (a : Form). foldl formTurn a ys) e₀ in
       let s : w ≡ noCandidates clock (refusalIn (askedAt clock (leb (length ys) 256 && (foldl formTurn formStart ys) .ok) ps (length os))) (keyFor (askedAt clock (leb (length ys) 256 && (foldl formTurn formStart ys) .ok) ps (length os))) =
       e₂ ∙ ap (λ (a : Form). noCandidates clock (refusalIn (askedAt clock (leb (length ys) 256 && a .ok) ps (length os))) (keyFor (askedAt clock (leb (length ys) 256 && a .ok) ps (length os)))) f in
       let c : concluded z server ps os ≡ answer clock ys server ps (length os) = ap (λ (a : Found). concluded a server ps os) (e₃ ∙ ap (λ (a : Candidates). looked a ys) s) ∙ answered clock ys server ps os in
-      (e₄ .0 ∙ ap told c, e₄ .1 ∙ ap (λ (o : Outcome). laid (written o) os) c)
+      subst (λ (o : Outcome). Gives o os r zs) c e₄
 
   exits : (r : LeaseAnswer) (w : Val) (zs : List ℕ) → Ends r zs → length zs ≡ length os
       → ent 𝓤 (⋆ 𝓤 H A ((‵ (flft κ₀ q₀) ⊛ ‵ ftrue) ∷ Tok ∷ ‵ Own₀ ∷ ‵ Own₁ ∷ ‵ (finally u8 γ₂ zs) ∷ ‵ (N.the-row .own r (w ∷ [])) ∷ [])) (Post w)

@@ -1,7 +1,7 @@
 use mathlib.Core.Path.{_≡_, sym, _∙_, ap}
 use lib.ListN.{length}
 use lib.Dec.{eqb}
-use Rattle.lease.proofs.LeadLaws.{tail-broken, tail-of-6}
+use Rattle.lease.proofs.LeadingLaws.{tail-broken, tail-of-6}
 use borrow.Author.Needs.{needs}
 use Rattle.lease.proofs.form.is_zero_from_6.Statement.{statement}
 use Rattle.lease.proofs.form.is_zero_from_6.Tie as tie

@@ -1,10 +1,9 @@
+use mathlib.Core.Path.{_∙_, subst}
+use mathlib.Core.List.{List}
+use Prim.Native.Nat.{ℕ}
 use borrow.Author.Tests.{eq-eqb, ne-eqb}
-use mathlib.Core.Path.{_∙_}
-use native.Mathlib.Omega.{arith}
-use Prim.Native.Nat.{_+_, _≤_, _<_}
-use lib.ListN.{length}
-use Rattle.leasepacket.specs.Query.{typed}
-use Rattle.leasepacket.proofs.QueryLaws.{type-long, type-is}
+use Rattle.leasepacket.specs.Places.{ReadAs}
+use Rattle.leasepacket.proofs.ReadingLaws.{refuses-4, passed-4, type-absent, type-of-many, type-inside, type-is-octet}
 use borrow.Author.Needs.{needs}
 use Rattle.leasepacket.proofs.query.of_type.Statement.{statement}
 use Rattle.leasepacket.proofs.query.of_type.Tie as tie
@@ -16,54 +15,37 @@ enum-known-kind : tie.Need-enum-known-kind
 enum-known-kind c = search needs
 
 returns : tie.Need-returns
-unfolding typed
 returns c =
-    let s = c .before .before .before .before .before .args in
+    let s = c .before .before .before .before .before in
     let g = c .before .before .kind .given in
-    let h : g .0 .0 + g .0 .1 .0 ≤ length (s .p .now) = rw (g .1) at (c .before .before .before .before .before .pre .1) in
-    rw (g .1, type-long (s .p .now) (g .0 .0) (g .0 .1 .0) h (c .if1 .taken))
+    refuses-4 _ _ (s .pre .1) (type-of-many _ (g .0 .0) (g .0 .1 .0) (subst (ReadAs 53 (s .args .p .now)) (g .1) (s .pre .0)) (c .if1 .taken))
 
 shared-slice-read-if2 : tie.Need-shared-slice-read-if2
 shared-slice-read-if2 c =
-    let s = c .before .before .before .before .before .before .args in
+    let s = c .before .before .before .before .before .before in
     let g = c .before .before .before .kind .given in
-    let h : g .0 .0 + g .0 .1 .0 ≤ length (s .p .now) = rw (g .1) at (c .before .before .before .before .before .before .pre .1) in
-    omega (arith, h, c .before .if1 .left)
+    type-inside _ (g .0 .0) (g .0 .1 .0) (subst (ReadAs 53 (s .args .p .now)) (g .1) (s .pre .0)) (c .before .if1 .left)
 
 returns-2 : tie.Need-returns-2
-unfolding typed
 returns-2 c =
-    let s = c .before .before .before .before .before .before .before .args in
+    let s = c .before .before .before .before .before .before .before in
     let g = c .before .before .before .before .kind .given in
-    let h : g .0 .0 + g .0 .1 .0 ≤ length (s .p .now) = rw (g .1) at (c .before .before .before .before .before .before .before .pre .1) in
-    let b : g .0 .0 < length (s .p .now) = omega (arith, h, c .before .before .if1 .left) in
-    rw (g .1, type-is (s .p .now) (g .0 .0) (g .0 .1 .0) (c .before .before .if1 .left) b ∙ ne-eqb _ _ (c .if2 .taken))
+    refuses-4 _ _ (s .pre .1) (type-is-octet _ (g .0 .0) (g .0 .1 .0) (subst (ReadAs 53 (s .args .p .now)) (g .1) (s .pre .0)) (c .before .before .if1 .left) ∙ ne-eqb _ _ (c .if2 .taken))
 
 from-relay-requires : tie.Need-from-relay-requires
-from-relay-requires c κs = search needs
+from-relay-requires c κs =
+    let s = c .before .before .before .before .before .before .before in
+    let g = c .before .before .before .before .kind .given in
+    passed-4 _ _ (s .pre .1) (type-is-octet _ (g .0 .0) (g .0 .1 .0) (subst (ReadAs 53 (s .args .p .now)) (g .1) (s .pre .0)) (c .before .before .if1 .left) ∙ eq-eqb _ _ (c .if2 .left))
 
 returns-3 : tie.Need-returns-3
-unfolding typed
-returns-3 c = rw (c .enum-told .given .1)
+returns-3 c =
+    let s = c .before .before .before in
+    refuses-4 _ _ (s .pre .1) (type-absent _ (subst (ReadAs 53 (s .args .p .now)) (c .enum-told .given .1) (s .pre .0)))
 
 returns-4 : tie.Need-returns-4
-unfolding typed
-returns-4 c =
-    let s = c .before .before .before .before .before .before .before .before .args in
-    let g = c .before .before .before .before .before .kind .given in
-    let h : g .0 .0 + g .0 .1 .0 ≤ length (s .p .now) = rw (g .1) at (c .before .before .before .before .before .before .before .before .pre .1) in
-    let b : g .0 .0 < length (s .p .now) = omega (arith, h, c .before .before .before .if1 .left) in
-    rw (g .1, type-is (s .p .now) (g .0 .0) (g .0 .1 .0) (c .before .before .before .if1 .left) b ∙ eq-eqb _ _ (c .before .if2 .left)) (c .from-relay .ensures)
+returns-4 c = search needs
 
 pub of-type-spec : {M : Type 1} → statement M
 of-type-spec =
-    tie.close
-    (tie.spec
-    enum-told
-    enum-known-kind
-    returns
-    shared-slice-read-if2
-    returns-2
-    from-relay-requires
-    returns-3
-    returns-4)
+    tie.close (tie.spec enum-told enum-known-kind returns shared-slice-read-if2 returns-2 from-relay-requires returns-3 returns-4)

@@ -2,7 +2,7 @@ use mathlib.Core.Path.{_≡_, sym}
 use native.Mathlib.Omega.{arith}
 use Prim.Native.Nat.{min}
 use lib.ListN.{length}
-use Rattle.leasepacket.specs.Query.{part}
+use Rattle.leasepacket.specs.Packet.{part}
 use Rattle.leasequery.specs.Stages.{idKey}
 use Rattle.leasequery.proofs.StageLaws.{part-length}
 use borrow.Author.Needs.{needs}

@@ -2,7 +2,7 @@ use mathlib.Core.Path.{_≡_, sym, _∙_, ap}
 use native.Mathlib.Omega.{arith}
 use Prim.Native.Nat.{_≤_, _+_, _-_}
 use lib.ListN.{length}
-use Rattle.leasepacket.specs.Query.{part}
+use Rattle.leasepacket.specs.Packet.{part}
 use Rattle.leasequery.proofs.StageLaws.{part-length, part-available, padded-over, padded-none, padded-written}
 use borrow.Author.Needs.{needs}
 use Rattle.leasequery.proofs.ask.octets_from.Statement.{statement}

@@ -8,7 +8,7 @@ use Rattle.leasequery.proofs.conclude.conclude.Tie as tie
 returns : tie.Need-returns
 returns c =
     let s = c .before .before .before .before .args in
-    rw (con-refused (s .f) (s .server) (s .query .now) (s .buf .now) (c .if1 .taken)) (refl, sym (laid-nothing (s .buf .now)))
+    rw (con-refused (s .f) (s .server) (s .query .now) (s .buf .now) (c .if1 .taken)) (record { answers = refl; writes = sym (laid-nothing (s .buf .now)) })
 
 other-requires : tie.Need-other-requires
 other-requires c κs = search needs
@@ -59,19 +59,4 @@ returns-5 c =
 
 pub conclude-spec : {M : Type 1} → statement M
 conclude-spec =
-    tie.close
-    (tie.spec
-    returns
-    other-requires
-    same-length
-    returns-2
-    active-requires
-    same-length-2
-    returns-3
-    is-active-requires
-    active-requires-2
-    same-length-3
-    returns-4
-    other-requires-2
-    same-length-4
-    returns-5)
+    tie.close (tie.spec returns other-requires same-length returns-2 active-requires same-length-2 returns-3 is-active-requires active-requires-2 same-length-3 returns-4 other-requires-2 same-length-4 returns-5)

@@ -15,7 +15,7 @@ same-length c = search needs
 returns : tie.Need-returns
 returns c =
     let w = c .before .before .before .write-other .ensures in
-    (c .replied .ensures ∙ ap (λ n. record { refusal = 0; kind = c .before .before .before .before .before .before .before .args .kind; length = n }) (w .0), w .1)
+    record { answers = c .replied .ensures ∙ ap (λ n. record { refusal = 0; kind = c .before .before .before .before .before .before .before .args .kind; length = n }) (w .answers); writes = w .holds }
 
 pub other-spec : {M : Type 1} → statement M
 other-spec = tie.close (tie.spec write-other-requires replied-requires same-length returns)

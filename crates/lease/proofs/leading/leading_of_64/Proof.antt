@@ -1,12 +1,12 @@
 use mathlib.Core.Path.{_≡_, sym, _∙_, ap}
 use native.Mathlib.Omega.{arith}
 use Rattle.octets.specs.Word.{value}
-use Rattle.lease.specs.Lead.{leading}
+use Rattle.lease.specs.Leading.{leading}
 use lib.ListN.{length}
-use Rattle.lease.proofs.LeadLaws.{first-eight}
+use Rattle.lease.proofs.LeadingLaws.{first-eight}
 use borrow.Author.Needs.{needs}
-use Rattle.lease.proofs.lead.lead_16.Statement.{statement}
-use Rattle.lease.proofs.lead.lead_16.Tie as tie
+use Rattle.lease.proofs.leading.leading_of_64.Statement.{statement}
+use Rattle.lease.proofs.leading.leading_of_64.Tie as tie
 
 array-read-eight : tie.Need-array-read-eight
 array-read-eight c = search needs
@@ -35,17 +35,17 @@ array-read-eight-8 c = search needs
 eight-requires : tie.Need-eight-requires
 eight-requires c κs = search needs
 
-leading-of-requires : tie.Need-leading-of-requires
-leading-of-requires c κs = search needs
+leading-octets-requires : tie.Need-leading-octets-requires
+leading-octets-requires c κs = search needs
 
 returns : tie.Need-returns
 returns c =
     let s = c .before .before .args in
-    let e : length (s .t2) ≡ 16 = search needs in
-    c .leading-of .ensures ∙ ap (leading (s .n)) (c .before .eight .ensures ∙ sym (ap value (first-eight (s .t2) (omega arith))))
+    let e : length (s .t2) ≡ 64 = search needs in
+    c .leading-octets .ensures ∙ ap (leading (s .n)) (c .before .eight .ensures ∙ sym (ap value (first-eight (s .t2) (omega arith))))
 
-pub lead-16-spec : {M : Type 1} → statement M
-lead-16-spec =
+pub leading-of-64-spec : {M : Type 1} → statement M
+leading-of-64-spec =
     tie.close
     (tie.spec
     array-read-eight
@@ -57,5 +57,5 @@ lead-16-spec =
     array-read-eight-7
     array-read-eight-8
     eight-requires
-    leading-of-requires
+    leading-octets-requires
     returns)

@@ -20,7 +20,7 @@ use Rattle.octets.specs.Compare.{sameOctets}
 use Rattle.octets.proofs.CompareLaws.{same-true, same-self}
 use Rattle.lease.specs.Lease.{allZero}
 use Rattle.octets.specs.Word.{value}
-use Rattle.lease.specs.Lead.{leading}
+use Rattle.lease.specs.Leading.{leading}
 
 -- ---- zeros
 value-zero : (l : List ℕ) → eqb (value l) 0 ≡ allZero l

@@ -1,8 +1,8 @@
 use borrow.Author.Tests.{eq-eqb, ne-eqb}
 use Rattle.lease.specs.Lease.{activeAt}
 use borrow.Author.Needs.{needs}
-use Rattle.lease.proofs.key.is_active.Statement.{statement}
-use Rattle.lease.proofs.key.is_active.Tie as tie
+use Rattle.lease.proofs.activity.is_active.Statement.{statement}
+use Rattle.lease.proofs.activity.is_active.Tie as tie
 
 returns : tie.Need-returns
 unfolding activeAt

@@ -1,8 +1,8 @@
 use mathlib.Core.Path.{sym, _∙_}
-use Rattle.leasepacket.specs.Query.{hardwareSet}
+use Rattle.leasepacket.specs.Query.{hasHardwareKey}
 use borrow.Author.Needs.{needs}
-use Rattle.leasepacket.proofs.query.is_hardware_set.Statement.{statement}
-use Rattle.leasepacket.proofs.query.is_hardware_set.Tie as tie
+use Rattle.leasepacket.proofs.query.has_hardware_key.Statement.{statement}
+use Rattle.leasepacket.proofs.query.has_hardware_key.Tie as tie
 
 sub-is-any-set : tie.Need-sub-is-any-set
 sub-is-any-set c = search needs
@@ -17,7 +17,7 @@ is-any-set-requires : tie.Need-is-any-set-requires
 is-any-set-requires c κs = search needs
 
 returns : tie.Need-returns
-unfolding hardwareSet
+unfolding hasHardwareKey
 returns c = simp (sym (c .before .is-any-set .ensures) ∙ c .if1 .taken)
 
 sub-is-any-set-2 : tie.Need-sub-is-any-set-2
@@ -33,11 +33,11 @@ is-any-set-requires-2 : tie.Need-is-any-set-requires-2
 is-any-set-requires-2 c κs = search needs
 
 returns-2 : tie.Need-returns-2
-unfolding hardwareSet
+unfolding hasHardwareKey
 returns-2 c = simp (sym (c .before .before .before .is-any-set .ensures) ∙ c .before .before .if1 .left) (c .is-any-set2 .ensures)
 
-pub is-hardware-set-spec : {M : Type 1} → statement M
-is-hardware-set-spec =
+pub has-hardware-key-spec : {M : Type 1} → statement M
+has-hardware-key-spec =
     tie.close
     (tie.spec
     sub-is-any-set

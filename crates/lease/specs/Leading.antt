@@ -1,4 +1,4 @@
--- The leading octets of a number. Only the contracts of inner functions cite this.
+-- The leading octets of a number. Only contracts inside this crate cite this.
 use Prim.Native.Nat.{ℕ, _*_, _-_, _^_, _%_}
 use mathlib.Core.Bool.{cond}
 use lib.Dec.{ltb, eqb}

@@ -1,8 +1,8 @@
 use borrow.Author.Tests.{eq-eqb, ne-eqb, lt-ltb, le-ltb}
-use Rattle.lease.specs.Lead.{leading}
+use Rattle.lease.specs.Leading.{leading}
 use borrow.Author.Needs.{needs}
-use Rattle.lease.proofs.lead.leading_of.Statement.{statement}
-use Rattle.lease.proofs.lead.leading_of.Tie as tie
+use Rattle.lease.proofs.leading.leading_octets.Statement.{statement}
+use Rattle.lease.proofs.leading.leading_octets.Tie as tie
 
 returns : tie.Need-returns
 unfolding leading
@@ -25,5 +25,5 @@ returns-3 : tie.Need-returns-3
 unfolding leading
 returns-3 c = simp (ne-eqb _ _ (c .before .if1 .left), le-ltb _ _ (c .if2 .left))
 
-pub leading-of-spec : {M : Type 1} → statement M
-leading-of-spec = tie.close (tie.spec returns returns-2 mul-k sub-k shl-result returns-3)
+pub leading-octets-spec : {M : Type 1} → statement M
+leading-octets-spec = tie.close (tie.spec returns returns-2 mul-k sub-k shl-result returns-3)

@@ -4,8 +4,8 @@ use native.Mathlib.Omega.{arith}
 use lib.ListN.{length}
 use lib.Seq.{length-take-le}
 use borrow.Author.Needs.{needs}
-use Rattle.lease.proofs.key.do_16_match.Statement.{statement}
-use Rattle.lease.proofs.key.do_16_match.Tie as tie
+use Rattle.lease.proofs.key.do_all_match_16.Statement.{statement}
+use Rattle.lease.proofs.key.do_all_match_16.Tie as tie
 
 returns : tie.Need-returns
 returns c = simp (lt-leb _ _ (c .if1 .taken))
@@ -34,8 +34,8 @@ same-requires c κs = search needs
 returns-2 : tie.Need-returns-2
 returns-2 c = simp (le-leb _ _ (c .before .before .before .if1 .left)) (c .same .ensures)
 
-pub do-16-match-spec : {M : Type 1} → statement M
-do-16-match-spec =
+pub do-all-match-16-spec : {M : Type 1} → statement M
+do-all-match-16-spec =
     tie.close
     (tie.spec
     returns
