@@ -1,11 +1,12 @@
 -- The addresses of one name. Document 01, "Zone, requests and jobs".
+use mathlib.Core.Path.{_≡_}
 use mathlib.Core.Bool.{Bool, true, false, cond, _&&_}
 use mathlib.Core.List.{List, [], _∷_, _++_, map}
-use Prim.Native.Nat.{ℕ, _+_, _-_}
+use Prim.Native.Nat.{ℕ, _+_, _-_, _≤_}
 use lib.Dec.{leb, ltb}
-use lib.ListN.{length, take}
+use lib.ListN.{length, take, drop, set, replicate}
 use Rattle.octets.specs.Compare.{sameOctets}
-use Rattle.octets.specs.Count.{Octets, member, distinct, one}
+use Rattle.octets.specs.Count.{Octets, member, distinct, without, one}
 use Rattle.addresses.specs.declared.set4.Addr4.{Addr4}
 use Rattle.addresses.specs.declared.set4.Set4.{Set4}
 use Rattle.addresses.specs.declared.set6.Addr6.{Addr6}
@@ -29,12 +30,18 @@ mark a v s = record { count = (s .count + one v) - one (s .has a); has = λ b. c
 
 -- ---- the structs
 
+abbrev pub octets4 : Addr4 → Octets
+octets4 a = a .octets
+
+abbrev pub octets6 : Addr6 → Octets
+octets6 a = a .octets
+
 -- The addresses of a struct: the first ones of its array, as many as the count says.
 abbrev pub list4 : Set4 → List Octets
-list4 s = map (λ (a : Addr4). a .octets) (take (s .count) (s .items))
+list4 s = map octets4 (take (s .count) (s .items))
 
 abbrev pub list6 : Set6 → List Octets
-list6 s = map (λ (a : Addr6). a .octets) (take (s .count) (s .items))
+list6 s = map octets6 (take (s .count) (s .items))
 
 -- What they mean.
 abbrev pub setOf : List Octets → Addresses
@@ -44,6 +51,59 @@ setOf l = record { count = length l; has = λ a. member a l }
 unfoldable pub sound : ℕ → List Octets → Bool
 sound count l = leb count 4 && distinct l
 
--- The list with an address more, unless it is there or there are four.
+-- ---- for the contracts of inner functions
+
+-- A set as its struct has it, whichever the family: an array and a count.
+pub record Counted (A : Type 0) : Type 0 where
+  pub items : List A
+  pub count : ℕ
+
+abbrev pub counted4 : Set4 → Counted Addr4
+counted4 s = record { items = s .items; count = s .count }
+
+abbrev pub counted6 : Set6 → Counted Addr6
+counted6 s = record { items = s .items; count = s .count }
+
+-- The elements that the count takes in, and their octets.
+abbrev pub held : {A : Type 0} → Counted A → List A
+held s = take (s .count) (s .items)
+
+abbrev pub listed : {A : Type 0} → (A → Octets) → Counted A → List Octets
+listed octets s = map octets (held s)
+
+-- No addresses, and zeros in all places.
+abbrev pub emptySet4 : Set4
+emptySet4 = record { items = replicate 4 (record { octets = replicate 4 0 }); count = 0 }
+
+abbrev pub emptySet6 : Set6
+emptySet6 = record { items = replicate 4 (record { octets = replicate 16 0 }); count = 0 }
+
+-- An address more, unless it is there or there are four: of the list, and of the struct, in whose array it stands behind the others.
 unfoldable pub joined : Octets → List Octets → List Octets
 joined a l = cond (member a l) l (cond (ltb (length l) 4) (l ++ (a ∷ [])) l)
+
+unfoldable pub added : {A : Type 0} → (A → Octets) → A → Counted A → Counted A
+added octets a s =
+    cond (member (octets a) (listed octets s)) s (cond (ltb (s .count) 4) (record { items = set (s .items) (s .count) a; count = s .count + 1 }) s)
+
+-- The struct that comes of it, and what follows of its list and its count.
+pub record Added {A : Type 0} (octets : A → Octets) (a : A) (s r : Counted A) : Type 0 where
+  pub setIs : r ≡ added octets a s
+  pub listIs : listed octets r ≡ joined (octets a) (listed octets s)
+  pub staysFew : s .count ≤ 4 → r .count ≤ 4
+
+-- An address less: the others stand in front in their order, and behind them the array is as it was.
+unfoldable pub others : {A : Type 0} → (A → Octets) → Octets → List A → List A
+others octets a [] = []
+others octets a (x ∷ l) = cond (sameOctets (octets x) a) (others octets a l) (x ∷ others octets a l)
+
+abbrev pub inFront : {A : Type 0} → List A → Counted A → Counted A
+inFront l s = record { items = l ++ drop (length l) (s .items); count = length l }
+
+unfoldable pub removed : {A : Type 0} → (A → Octets) → A → Counted A → Counted A
+removed octets a s = inFront (others octets (octets a) (held s)) s
+
+pub record Removed {A : Type 0} (octets : A → Octets) (a : A) (s r : Counted A) : Type 0 where
+  pub setIs : r ≡ removed octets a s
+  pub listIs : listed octets r ≡ without (octets a) (listed octets s)
+  pub isFew : r .count ≤ 4

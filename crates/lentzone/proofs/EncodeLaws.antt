@@ -14,7 +14,8 @@ use Rattle.zone.specs.Survey.{placeOf}
 use Rattle.octets.specs.Write.{put, Laid, WroteIf}
 use Rattle.octets.proofs.WriteLaws.{written, more}
 use Rattle.lentzone.specs.Decode.{part, addr4, addr6, set4In, set6In, entryIn, rows, zoneIn}
-use Rattle.lentzone.specs.Encode.{joined, octets4, octets6, set4Octets, set6Octets, entryOctets, entriesOctets, octetsOf, Wide, SizedEntry, SizedEntries, EveryZoneIsHeld, HeldOnce}
+use Rattle.addresses.specs.Addresses.{octets4, octets6}
+use Rattle.lentzone.specs.Encode.{joined, set4Octets, set6Octets, entryOctets, entriesOctets, octetsOf, Wide, SizedEntry, SizedEntries, EveryZoneIsHeld, HeldOnce}
 use Rattle.lentzone.proofs.DecodeLaws.{four}
 use Rattle.lentzone.specs.Inner.{recordsOctets, SizedRecords, PutAddress}
 

@@ -6,6 +6,7 @@ use Prim.Native.Nat.{ℕ, _*_, _≤_}
 use lib.Dec.{eqb, ltb}
 use lib.ListN.{length, set, take, drop, replicate}
 use Rattle.octets.specs.Write.{Laid, WroteIf}
+use Rattle.addresses.specs.Addresses.{octets4, octets6}
 use Rattle.addresses.specs.declared.set4.Set4.{Set4}
 use Rattle.addresses.specs.declared.set6.Set6.{Set6}
 use Rattle.dname.specs.declared.name.Name.{Name}
@@ -17,7 +18,7 @@ use Rattle.zone.specs.Meaning.{inOrder}
 use Rattle.zone.specs.Survey.{fingerprintWords, named, recordsOf, Surveyed}
 use Rattle.lentzone.specs.declared.look.Look.{Look}
 use Rattle.lentzone.specs.Decode.{entryIn, zoneIn, OnePlace}
-use Rattle.lentzone.specs.Encode.{octets4, octets6, set4Octets, set6Octets, entryOctets, Wide, SizedEntry}
+use Rattle.lentzone.specs.Encode.{set4Octets, set6Octets, entryOctets, Wide, SizedEntry}
 
 -- what a used place comes to
 pub record Looked (n : List ℕ) (e : Entry) (r : Look) : Type 0 where

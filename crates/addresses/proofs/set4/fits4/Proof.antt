@@ -1,35 +1,20 @@
-use mathlib.Core.Path.{_≡_, sym, _∙_, ap}
-use mathlib.Core.Bool.{Bool, true, false, _||_, or-true, or-false}
-use lib.Dec.{ltb}
-use lib.ListN.{length}
-use borrow.Author.Tests.{lt-ltb, le-ltb}
-use Rattle.octets.specs.Count.{Octets, member}
-use Rattle.addresses.specs.Addresses.{list4}
-use Rattle.addresses.specs.declared.set4.Addr4.{Addr4}
-use Rattle.addresses.proofs.PartLaws.{places4, part-room}
+use mathlib.Core.Path.{_∙_}
+use native.Mathlib.Omega.{arith}
 use borrow.Author.Needs.{needs}
+use Rattle.addresses.specs.Addresses.{octets4, counted4}
+use Rattle.addresses.proofs.CountedLaws.{four4, count-fits, count-full}
 use Rattle.addresses.proofs.set4.fits4.Statement.{statement}
 use Rattle.addresses.proofs.set4.fits4.Tie as tie
-
-abbrev oct : Addr4 → Octets
-oct a = a .octets
 
 returns : tie.Need-returns
 returns c =
     let s = c .before .before in
-    let r : ltb (length (list4 (s .args .s))) 4 ≡ true =
-    part-room oct (s .args .s .items) (s .args .s .count) (places4 (s .args .s) (s .good .0 .1 .1 .0 .1 .0 .1)) ∙ lt-ltb _ _ (c .if1 .taken) in
-    sym (ap (λ (b : Bool). member (s .args .a .octets) (list4 (s .args .s)) || b) r ∙ or-true (member (s .args .a .octets) (list4 (s .args .s))))
-
-has4-requires : tie.Need-has4-requires
-has4-requires c κs = search needs
+    count-fits octets4 (counted4 (s .args .s)) (four4 (s .args .s) (s .good .0 .1 .1 .0 .1 .0 .1)) (s .args .a .octets) (omega arith)
 
 returns-2 : tie.Need-returns-2
 returns-2 c =
     let s = c .before .before .before in
-    let r : ltb (length (list4 (s .args .s))) 4 ≡ false =
-    part-room oct (s .args .s .items) (s .args .s .count) (places4 (s .args .s) (s .good .0 .1 .1 .0 .1 .0 .1)) ∙ le-ltb _ _ (c .before .if1 .left) in
-    c .has4 .ensures ∙ sym (ap (λ (b : Bool). member (s .args .a .octets) (list4 (s .args .s)) || b) r ∙ or-false (member (s .args .a .octets) (list4 (s .args .s))))
+    c .has4 .ensures ∙ count-full octets4 (counted4 (s .args .s)) (four4 (s .args .s) (s .good .0 .1 .1 .0 .1 .0 .1)) (s .args .a .octets) (omega arith)
 
 pub fits4-spec : {M : Type 1} → statement M
-fits4-spec = tie.close (tie.spec returns has4-requires returns-2)
+fits4-spec = tie.close (tie.spec returns (λ c κs. search needs) returns-2)

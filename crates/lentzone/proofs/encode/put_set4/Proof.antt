@@ -1,7 +1,7 @@
 use Rattle.lentzone.proofs.EncodeLaws.{put-four}
-use Rattle.lentzone.specs.Encode.{octets4}
+use Rattle.addresses.specs.Addresses.{octets4}
 use Rattle.lentzone.specs.Decode.{addr4}
-use Rattle.addresses.proofs.PartLaws.{places4}
+use Rattle.addresses.proofs.CountedLaws.{four4}
 use mathlib.Core.List.{[]}
 use borrow.Author.Needs.{needs}
 use Rattle.lentzone.proofs.encode.put_set4.Statement.{statement}
@@ -41,7 +41,7 @@ returns : tie.Need-returns
 returns c =
     let s = c .before .before .before .before .before .before .before .before .before .before .before .before .before .before .before .before .before .before .before .before .before .before .before .before .before .args .t1 in
     let p =
-    put-four octets4 4 (s .items) (addr4 []) (s .count) (places4 s (c .before .before .before .before .before .before .before .before .before .before .before .before .before .before .before .before .before .before .before .before .before .before .before .before .before .good .0 .1 .1 .0 .1 .0 .1))
+    put-four octets4 4 (s .items) (addr4 []) (s .count) (four4 s (c .before .before .before .before .before .before .before .before .before .before .before .before .before .before .before .before .before .before .before .before .before .before .before .before .before .good .0 .1 .1 .0 .1 .0 .1))
     (c .before .before .before .before .before .before .before .before .before .before .before .before .before .before .before .before .before .before .before .before .before .put4 .ensures)
     (c .before .before .before .before .before .before .before .before .before .before .before .before .before .before .before .before .put42 .ensures)
     (c .before .before .before .before .before .before .before .before .before .before .before .put43 .ensures)

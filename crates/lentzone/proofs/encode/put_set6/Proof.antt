@@ -1,7 +1,7 @@
 use Rattle.lentzone.proofs.EncodeLaws.{put-four}
-use Rattle.lentzone.specs.Encode.{octets6}
+use Rattle.addresses.specs.Addresses.{octets6}
 use Rattle.lentzone.specs.Decode.{addr6}
-use Rattle.addresses.proofs.PartLaws.{places6}
+use Rattle.addresses.proofs.CountedLaws.{four6}
 use mathlib.Core.List.{[]}
 use borrow.Author.Needs.{needs}
 use Rattle.lentzone.proofs.encode.put_set6.Statement.{statement}
@@ -41,7 +41,7 @@ returns : tie.Need-returns
 returns c =
     let s = c .before .before .before .before .before .before .before .before .before .before .before .before .before .before .before .before .before .before .before .before .before .before .before .before .before .args .t1 in
     let p =
-    put-four octets6 16 (s .items) (addr6 []) (s .count) (places6 s (c .before .before .before .before .before .before .before .before .before .before .before .before .before .before .before .before .before .before .before .before .before .before .before .before .before .good .0 .1 .1 .0 .1 .0 .1))
+    put-four octets6 16 (s .items) (addr6 []) (s .count) (four6 s (c .before .before .before .before .before .before .before .before .before .before .before .before .before .before .before .before .before .before .before .before .before .before .before .before .before .good .0 .1 .1 .0 .1 .0 .1))
     (c .before .before .before .before .before .before .before .before .before .before .before .before .before .before .before .before .before .before .before .before .before .put6 .ensures)
     (c .before .before .before .before .before .before .before .before .before .before .before .before .before .before .before .before .put62 .ensures)
     (c .before .before .before .before .before .before .before .before .before .before .before .put63 .ensures)

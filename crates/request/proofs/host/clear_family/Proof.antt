@@ -2,6 +2,7 @@ use mathlib.Core.Path.{sym, ap}
 use Rattle.addresses.specs.Addresses.{Family, nothing}
 use Rattle.update.specs.Rules.{with}
 use Rattle.update.specs.Meaning.{hostOf}
+use Rattle.addresses.proofs.SetLaws.{empty-set4, empty-set6}
 use Rattle.request.proofs.HostLaws.{kept4, kept6, kept-to, set-nothing, sound-nothing, family-four, family-six}
 use Rattle.zone.specs.Survey.{placeOf}
 use borrow.Author.Needs.{needs}
@@ -14,7 +15,7 @@ none4-requires c κs = search needs
 returns : tie.Need-returns
 returns c =
     let s = c .before .before in
-    let w = c .none4 .ensures in
+    let w = empty-set4 (c .none4 .ensures) in
     record {
       makes = λ n o. kept-to (kept4 (placeOf n (s .args .e)) o (c .none4 .result) nothing (sound-nothing _ _ (w .1) (w .0)) (set-nothing _ (w .0)))
           (ap (λ (f : Family). with f nothing (hostOf (placeOf n (s .args .e)))) (sym (family-four (s .args .family) (c .before .if1 .taken))));
@@ -26,7 +27,7 @@ none6-requires c κs = search needs
 returns-2 : tie.Need-returns-2
 returns-2 c =
     let s = c .before .before in
-    let w = c .none6 .ensures in
+    let w = empty-set6 (c .none6 .ensures) in
     record {
       makes = λ n o. kept-to (kept6 (placeOf n (s .args .e)) o (c .none6 .result) nothing (sound-nothing _ _ (w .1) (w .0)) (set-nothing _ (w .0)))
           (ap (λ (f : Family). with f nothing (hostOf (placeOf n (s .args .e)))) (sym (family-six (s .args .family) (c .before .if1 .left))));

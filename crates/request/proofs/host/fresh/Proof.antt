@@ -1,3 +1,4 @@
+use Rattle.addresses.proofs.SetLaws.{empty-set4, empty-set6}
 use Rattle.request.proofs.HostLaws.{made}
 use borrow.Author.Needs.{needs}
 use Rattle.request.proofs.host.fresh.Statement.{statement}
@@ -15,8 +16,8 @@ join-requires c κs = search needs
 returns : tie.Need-returns
 returns c =
     let s = c .before .before .before .args in
-    let p = c .before .before .none4 .ensures in
-    let q = c .before .none6 .ensures in
+    let p = empty-set4 (c .before .before .none4 .ensures) in
+    let q = empty-set6 (c .before .none6 .ensures) in
     record { stands = λ n. made n (s .d) _ _ (p .0) (p .1) (q .0) (q .1) (s .family) (s .a) (c .join .result) (c .join .ensures) }
 
 pub fresh-spec : {M : Type 1} → statement M
