@@ -6,15 +6,10 @@ use Rattle.addresses.proofs.CountedLaws.{four4, count-fits, count-full}
 use Rattle.addresses.proofs.set4.fits4.Statement.{statement}
 use Rattle.addresses.proofs.set4.fits4.Tie as tie
 
-returns : tie.Need-returns
-returns c =
-    let s = c .before .before in
-    count-fits octets4 (counted4 (s .args .s)) (four4 (s .args .s) (s .good .0 .1 .1 .0 .1 .0 .1)) (s .args .a .octets) (omega arith)
-
-returns-2 : tie.Need-returns-2
-returns-2 c =
-    let s = c .before .before .before in
-    c .has4 .ensures ∙ count-full octets4 (counted4 (s .args .s)) (four4 (s .args .s) (s .good .0 .1 .1 .0 .1 .0 .1)) (s .args .a .octets) (omega arith)
-
 pub fits4-spec : {M : Type 1} → statement M
-fits4-spec = tie.close (tie.spec returns (λ c κs. search needs) returns-2)
+fits4-spec =
+    tie.close
+    (tie.spec
+    (λ c. let s = c .before .before in count-fits octets4 (counted4 (s .args .s)) (four4 (s .args .s) (s .good .0 .1 .1 .0 .1 .0 .1)) (s .args .a .octets) (omega arith))
+    (λ c κs. search needs)
+    (λ c. let s = c .before .before .before in c .has4 .ensures ∙ count-full octets4 (counted4 (s .args .s)) (four4 (s .args .s) (s .good .0 .1 .1 .0 .1 .0 .1)) (s .args .a .octets) (omega arith)))

@@ -14,6 +14,5 @@ distinct6-spec =
     (λ c κs. search needs) (λ c. pairs-start (places6 (c .before .args .t1) (c .before .good .0 .1 .1 .0 .1 .0 .1) (c .held-places .ensures)))
     (λ c. omega arith) (λ c. omega arith) (λ c. omega arith) (λ c κs. search needs)
     (λ c. pairs-hit (c .before .before .before .before .loop .inv) _ (omega arith) (sym (c .before .has6-from .ensures) ∙ c .if1 .taken))
-    (λ c. omega arith) (λ c. omega arith)
-    (λ c. pairs-miss (c .before .before .before .before .loop .inv) _ (omega arith) (sym (c .before .has6-from .ensures) ∙ c .if1 .left))
+    (λ c. omega arith) (λ c. omega arith) (λ c. pairs-miss (c .before .before .before .before .loop .inv) _ (omega arith) (sym (c .before .has6-from .ensures) ∙ c .if1 .left))
     (λ c. pairs-end (c .before .loop .inv) (omega arith)))

@@ -6,15 +6,10 @@ use Rattle.addresses.proofs.CountedLaws.{four6, count-fits, count-full}
 use Rattle.addresses.proofs.set6.fits6.Statement.{statement}
 use Rattle.addresses.proofs.set6.fits6.Tie as tie
 
-returns : tie.Need-returns
-returns c =
-    let s = c .before .before in
-    count-fits octets6 (counted6 (s .args .s)) (four6 (s .args .s) (s .good .0 .1 .1 .0 .1 .0 .1)) (s .args .a .octets) (omega arith)
-
-returns-2 : tie.Need-returns-2
-returns-2 c =
-    let s = c .before .before .before in
-    c .has6 .ensures ∙ count-full octets6 (counted6 (s .args .s)) (four6 (s .args .s) (s .good .0 .1 .1 .0 .1 .0 .1)) (s .args .a .octets) (omega arith)
-
 pub fits6-spec : {M : Type 1} → statement M
-fits6-spec = tie.close (tie.spec returns (λ c κs. search needs) returns-2)
+fits6-spec =
+    tie.close
+    (tie.spec
+    (λ c. let s = c .before .before in count-fits octets6 (counted6 (s .args .s)) (four6 (s .args .s) (s .good .0 .1 .1 .0 .1 .0 .1)) (s .args .a .octets) (omega arith))
+    (λ c κs. search needs)
+    (λ c. let s = c .before .before .before in c .has6 .ensures ∙ count-full octets6 (counted6 (s .args .s)) (four6 (s .args .s) (s .good .0 .1 .1 .0 .1 .0 .1)) (s .args .a .octets) (omega arith)))

@@ -14,6 +14,5 @@ has6-from-spec =
     (λ c κs. search needs) (λ c. search-start (places6 (c .before .args .t1) (c .before .good .0 .1 .1 .0 .1 .0 .1) (c .held-places .ensures)))
     (λ c. omega arith) (λ c. omega arith) (λ c κs. search needs)
     (λ c. search-hit (c .before .before .before .before .loop .inv) _ (omega arith) (sym (c .before .same6 .ensures) ∙ c .if1 .taken))
-    (λ c. omega arith) (λ c. omega arith)
-    (λ c. search-miss (c .before .before .before .before .loop .inv) _ (omega arith) (sym (c .before .same6 .ensures) ∙ c .if1 .left))
+    (λ c. omega arith) (λ c. omega arith) (λ c. search-miss (c .before .before .before .before .loop .inv) _ (omega arith) (sym (c .before .same6 .ensures) ∙ c .if1 .left))
     (λ c. search-end (c .before .loop .inv) (omega arith)))

@@ -7,20 +7,13 @@ use Rattle.addresses.proofs.ChangeLaws.{added-there, added-full, added-
 use Rattle.addresses.proofs.set6.join6.Statement.{statement}
 use Rattle.addresses.proofs.set6.join6.Tie as tie
 
-returns : tie.Need-returns
-returns c = added-there octets6 _ _ (sym (c .before .has6 .ensures) ∙ c .if1 .taken)
-
-returns-2 : tie.Need-returns-2
-returns-2 c =
-    let s = c .before .before .before .before in
-    added-full octets6 _ (counted6 (s .args .s)) (four6 (s .args .s) (s .good .0 .1 .1 .0 .1 .0 .1)) (sym (c .before .before .before .has6 .ensures) ∙ c .before .before .if1 .left) (omega arith)
-
-returns-3 : tie.Need-returns-3
-returns-3 c =
-    let b = c .before .before .before .before in
-    let s = b .before .before in
-    added-new octets6 _ (counted6 (s .args .s)) (four6 (s .args .s) (s .good .0 .1 .1 .0 .1 .0 .1)) (sym (b .before .has6 .ensures) ∙ b .if1 .left) (omega arith)
-
 pub join6-spec : {M : Type 1} → statement M
 join6-spec =
-    tie.close (tie.spec (λ c κs. search needs) returns returns-2 (λ c. search needs) (λ c. search needs) (λ c. search needs) (λ c. search needs) returns-3)
+    tie.close
+    (tie.spec (λ c κs. search needs) (λ c. added-there octets6 _ _ (sym (c .before .has6 .ensures) ∙ c .if1 .taken))
+    (λ c. let s = c .before .before .before .before in
+    added-full octets6 _ (counted6 (s .args .s)) (four6 (s .args .s) (s .good .0 .1 .1 .0 .1 .0 .1)) (sym (c .before .before .before .has6 .ensures) ∙ c .before .before .if1 .left) (omega arith))
+    (λ c. search needs) (λ c. search needs) (λ c. search needs) (λ c. search needs)
+    (λ c. let left = c .before .before .before .before in
+    let s = left .before .before in
+    added-new octets6 _ (counted6 (s .args .s)) (four6 (s .args .s) (s .good .0 .1 .1 .0 .1 .0 .1)) (sym (left .before .has6 .ensures) ∙ left .if1 .left) (omega arith)))
