@@ -30,6 +30,7 @@ mark a v s = record { count = (s .count + one v) - one (s .has a); has = λ b. c
 
 -- ---- the structs
 
+-- An address is its octets, four or sixteen.
 abbrev pub octets4 : Addr4 → Octets
 octets4 a = a .octets
 
@@ -78,10 +79,11 @@ emptySet4 = record { items = replicate 4 (record { octets = replicate 4 0 }); co
 abbrev pub emptySet6 : Set6
 emptySet6 = record { items = replicate 4 (record { octets = replicate 16 0 }); count = 0 }
 
--- An address more, unless it is there or there are four: of the list, and of the struct, in whose array it stands behind the others.
+-- The list with an address more behind the others, unless it is there or there are four.
 unfoldable pub joined : Octets → List Octets → List Octets
 joined a l = cond (member a l) l (cond (ltb (length l) 4) (l ++ (a ∷ [])) l)
 
+-- The same of the struct: the address is written to the first place behind the others, and no other place changes; a count above four stays.
 unfoldable pub added : {A : Type 0} → (A → Octets) → A → Counted A → Counted A
 added octets a s =
     cond (member (octets a) (listed octets s)) s (cond (ltb (s .count) 4) (record { items = set (s .items) (s .count) a; count = s .count + 1 }) s)
@@ -92,17 +94,20 @@ pub record Added {A : Type 0} (octets : A → Octets) (a : A) (s r : Counted A) 
   pub listIs : listed octets r ≡ joined (octets a) (listed octets s)
   pub staysFew : s .count ≤ 4 → r .count ≤ 4
 
--- An address less: the others stand in front in their order, and behind them the array is as it was.
+-- The elements without those of one address, in their order.
 unfoldable pub others : {A : Type 0} → (A → Octets) → Octets → List A → List A
 others octets a [] = []
 others octets a (x ∷ l) = cond (sameOctets (octets x) a) (others octets a l) (x ∷ others octets a l)
 
+-- The array with these in front, behind them as it was, and a count that takes in these and no more.
 abbrev pub inFront : {A : Type 0} → List A → Counted A → Counted A
 inFront l s = record { items = l ++ drop (length l) (s .items); count = length l }
 
+-- The struct without an address.
 unfoldable pub removed : {A : Type 0} → (A → Octets) → A → Counted A → Counted A
 removed octets a s = inFront (others octets (octets a) (held s)) s
 
+-- The struct that comes of it, and what follows of its list and its count.
 pub record Removed {A : Type 0} (octets : A → Octets) (a : A) (s r : Counted A) : Type 0 where
   pub setIs : r ≡ removed octets a s
   pub listIs : listed octets r ≡ without (octets a) (listed octets s)
