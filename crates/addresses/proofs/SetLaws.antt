@@ -51,11 +51,11 @@ sound-rest count l h = rw (le-leb count 4 h)
 
 -- ---- no address
 
-pub empty-set4 : {s : Set4} → s ≡ emptySet4 → (list4 s ≡ []) × (s .count ≡ 0)
-empty-set4 e = (ap list4 e, ap (λ (s : Set4). s .count) e)
+pub of-empty4 : {s : Set4} → s ≡ emptySet4 → (list4 s ≡ []) × (s .count ≡ 0)
+of-empty4 e = (ap list4 e, ap (λ (s : Set4). s .count) e)
 
-pub empty-set6 : {s : Set6} → s ≡ emptySet6 → (list6 s ≡ []) × (s .count ≡ 0)
-empty-set6 e = (ap list6 e, ap (λ (s : Set6). s .count) e)
+pub of-empty6 : {s : Set6} → s ≡ emptySet6 → (list6 s ≡ []) × (s .count ≡ 0)
+of-empty6 e = (ap list6 e, ap (λ (s : Set6). s .count) e)
 
 -- ---- an address more
 

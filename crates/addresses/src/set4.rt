@@ -22,7 +22,7 @@ pub struct Set4 {
     pub count: u8,
 }
 
-fn same4(a: Addr4, b: Addr4) -> bool
+fn is_same4(a: Addr4, b: Addr4) -> bool
     ensures { λ r. ⌜ r ≡ sameOctets (a .octets) (b .octets) ⌝ }
 {
     let o = a.octets;
@@ -38,7 +38,7 @@ fn has4_from(s: Set4, a: Addr4, from: usize) -> bool
     let mut i = from;
     while i < n {
         let b = s.items[i];
-        if same4(b, a) {
+        if is_same4(b, a) {
             return true;
         }
         i += 1;
@@ -54,7 +54,7 @@ pub fn has4(s: Set4, a: Addr4) -> bool
 }
 
 // Whether no two of the addresses are equal.
-fn distinct4(s: Set4) -> bool
+fn is_distinct4(s: Set4) -> bool
     ensures { λ r. ⌜ r ≡ distinct (list4 s) ⌝ }
 {
     let n = count::held_places(s.count);
@@ -70,13 +70,13 @@ fn distinct4(s: Set4) -> bool
 }
 
 // Whether the set has the form that a set must have.
-pub fn sound4(s: Set4) -> bool
+pub fn is_sound4(s: Set4) -> bool
     ensures { λ r. ⌜ r ≡ sound (s .count) (list4 s) ⌝ }
 {
     if s.count > 4 {
         return false;
     }
-    distinct4(s)
+    is_distinct4(s)
 }
 
 // The set with the address behind the others, unless it is there or there is no room for it.
@@ -107,7 +107,7 @@ pub fn without4(s: Set4, a: Addr4) -> Set4
     while i < n {
         let b = s.items[i];
         i += 1;
-        if !same4(b, a) {
+        if !is_same4(b, a) {
             items[j] = b;
             j += 1;
         }
@@ -126,14 +126,14 @@ pub fn count4(s: Set4) -> usize
 }
 
 // Whether the set has no address.
-pub fn empty4(s: Set4) -> bool
+pub fn is_empty4(s: Set4) -> bool
     ensures { λ r. ⌜ r ≡ eqb (length (list4 s)) 0 ⌝ }
 {
     s.count == 0
 }
 
 // Whether the address is there, or there is room for it.
-pub fn fits4(s: Set4, a: Addr4) -> bool
+pub fn has_room4(s: Set4, a: Addr4) -> bool
     ensures { λ r. ⌜ r ≡ (member (a .octets) (list4 s) || ltb (length (list4 s)) 4) ⌝ }
 {
     if s.count < 4 {
@@ -143,7 +143,7 @@ pub fn fits4(s: Set4, a: Addr4) -> bool
 }
 
 // The set of no addresses.
-pub fn none4() -> Set4
+pub fn empty_set4() -> Set4
     ensures { λ r. ⌜ r ≡ emptySet4 ⌝ }
 {
     let zeros = [0u8; 4];

@@ -22,7 +22,7 @@ pub struct Set6 {
     pub count: u8,
 }
 
-fn same6(a: Addr6, b: Addr6) -> bool
+fn is_same6(a: Addr6, b: Addr6) -> bool
     ensures { λ r. ⌜ r ≡ sameOctets (a .octets) (b .octets) ⌝ }
 {
     let o = a.octets;
@@ -38,7 +38,7 @@ fn has6_from(s: Set6, a: Addr6, from: usize) -> bool
     let mut i = from;
     while i < n {
         let b = s.items[i];
-        if same6(b, a) {
+        if is_same6(b, a) {
             return true;
         }
         i += 1;
@@ -54,7 +54,7 @@ pub fn has6(s: Set6, a: Addr6) -> bool
 }
 
 // Whether no two of the addresses are equal.
-fn distinct6(s: Set6) -> bool
+fn is_distinct6(s: Set6) -> bool
     ensures { λ r. ⌜ r ≡ distinct (list6 s) ⌝ }
 {
     let n = count::held_places(s.count);
@@ -70,13 +70,13 @@ fn distinct6(s: Set6) -> bool
 }
 
 // Whether the set has the form that a set must have.
-pub fn sound6(s: Set6) -> bool
+pub fn is_sound6(s: Set6) -> bool
     ensures { λ r. ⌜ r ≡ sound (s .count) (list6 s) ⌝ }
 {
     if s.count > 4 {
         return false;
     }
-    distinct6(s)
+    is_distinct6(s)
 }
 
 // The set with the address behind the others, unless it is there or there is no room for it.
@@ -107,7 +107,7 @@ pub fn without6(s: Set6, a: Addr6) -> Set6
     while i < n {
         let b = s.items[i];
         i += 1;
-        if !same6(b, a) {
+        if !is_same6(b, a) {
             items[j] = b;
             j += 1;
         }
@@ -126,14 +126,14 @@ pub fn count6(s: Set6) -> usize
 }
 
 // Whether the set has no address.
-pub fn empty6(s: Set6) -> bool
+pub fn is_empty6(s: Set6) -> bool
     ensures { λ r. ⌜ r ≡ eqb (length (list6 s)) 0 ⌝ }
 {
     s.count == 0
 }
 
 // Whether the address is there, or there is room for it.
-pub fn fits6(s: Set6, a: Addr6) -> bool
+pub fn has_room6(s: Set6, a: Addr6) -> bool
     ensures { λ r. ⌜ r ≡ (member (a .octets) (list6 s) || ltb (length (list6 s)) 4) ⌝ }
 {
     if s.count < 4 {
@@ -143,7 +143,7 @@ pub fn fits6(s: Set6, a: Addr6) -> bool
 }
 
 // The set of no addresses.
-pub fn none6() -> Set6
+pub fn empty_set6() -> Set6
     ensures { λ r. ⌜ r ≡ emptySet6 ⌝ }
 {
     let zeros = [0u8; 16];

@@ -95,7 +95,7 @@ fn is_sound4_in(s: &[u8]) -> bool
         return true;
     }
     let v4 = set4_in(s);
-    set4::sound4(v4)
+    set4::is_sound4(v4)
 }
 
 fn is_sound6_in(s: &[u8]) -> bool
@@ -106,7 +106,7 @@ fn is_sound6_in(s: &[u8]) -> bool
         return true;
     }
     let v6 = set6_in(s);
-    set6::sound6(v6)
+    set6::is_sound6(v6)
 }
 
 // Whether the address sets of a place have their form.

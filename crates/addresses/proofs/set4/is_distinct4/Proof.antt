@@ -4,11 +4,11 @@ use native.Mathlib.Omega.{arith}
 use borrow.Author.Needs.{needs}
 use Rattle.addresses.specs.Addresses.{octets4, counted4}
 use Rattle.addresses.proofs.CountedLaws.{places4, Pairs, pairs-start, pairs-hit, pairs-miss, pairs-end}
-use Rattle.addresses.proofs.set4.distinct4.Statement.{statement}
-use Rattle.addresses.proofs.set4.distinct4.Tie as tie
+use Rattle.addresses.proofs.set4.is_distinct4.Statement.{statement}
+use Rattle.addresses.proofs.set4.is_distinct4.Tie as tie
 
-pub distinct4-spec : {M : Type 1} → statement M
-distinct4-spec =
+pub is-distinct4-spec : {M : Type 1} → statement M
+is-distinct4-spec =
     tie.close
     (tie.spec (λ s n i₀ i. Pairs octets4 (counted4 s) n i) (λ s n i₀ i. n - i)
     (λ c κs. search needs) (λ c. pairs-start (places4 (c .before .args .t1) (c .before .good .0 .1 .1 .0 .1 .0 .1) (c .held-places .ensures)))

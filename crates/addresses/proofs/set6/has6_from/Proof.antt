@@ -13,6 +13,6 @@ has6-from-spec =
     (tie.spec (λ a from s n i₀ i. Search octets6 (a .octets) from (counted6 s) n i) (λ a from s n i₀ i. n - i)
     (λ c κs. search needs) (λ c. search-start (places6 (c .before .args .t1) (c .before .good .0 .1 .1 .0 .1 .0 .1) (c .held-places .ensures)))
     (λ c. omega arith) (λ c. omega arith) (λ c κs. search needs)
-    (λ c. search-hit (c .before .before .before .before .loop .inv) _ (omega arith) (sym (c .before .same6 .ensures) ∙ c .if1 .taken))
-    (λ c. omega arith) (λ c. omega arith) (λ c. search-miss (c .before .before .before .before .loop .inv) _ (omega arith) (sym (c .before .same6 .ensures) ∙ c .if1 .left))
+    (λ c. search-hit (c .before .before .before .before .loop .inv) _ (omega arith) (sym (c .before .is-same6 .ensures) ∙ c .if1 .taken))
+    (λ c. omega arith) (λ c. omega arith) (λ c. search-miss (c .before .before .before .before .loop .inv) _ (omega arith) (sym (c .before .is-same6 .ensures) ∙ c .if1 .left))
     (λ c. search-end (c .before .loop .inv) (omega arith)))

@@ -4,11 +4,11 @@ use native.Mathlib.Omega.{arith}
 use borrow.Author.Needs.{needs}
 use Rattle.addresses.specs.Addresses.{octets6, counted6}
 use Rattle.addresses.proofs.CountedLaws.{places6, Pairs, pairs-start, pairs-hit, pairs-miss, pairs-end}
-use Rattle.addresses.proofs.set6.distinct6.Statement.{statement}
-use Rattle.addresses.proofs.set6.distinct6.Tie as tie
+use Rattle.addresses.proofs.set6.is_distinct6.Statement.{statement}
+use Rattle.addresses.proofs.set6.is_distinct6.Tie as tie
 
-pub distinct6-spec : {M : Type 1} → statement M
-distinct6-spec =
+pub is-distinct6-spec : {M : Type 1} → statement M
+is-distinct6-spec =
     tie.close
     (tie.spec (λ s n i₀ i. Pairs octets6 (counted6 s) n i) (λ s n i₀ i. n - i)
     (λ c κs. search needs) (λ c. pairs-start (places6 (c .before .args .t1) (c .before .good .0 .1 .1 .0 .1 .0 .1) (c .held-places .ensures)))

@@ -11,7 +11,7 @@ returns : tie.Need-returns
 returns c = few-sound octets6 (counted6 (set6In (c .before .before .before .args .s .now))) (c .if1 .taken)
 
 returns-2 : tie.Need-returns-2
-returns-2 c = c .sound6 .ensures ∙ ap (λ (v : Set6). sound (v .count) (list6 v)) (c .before .set6-in .ensures)
+returns-2 c = c .is-sound6 .ensures ∙ ap (λ (v : Set6). sound (v .count) (list6 v)) (c .before .set6-in .ensures)
 
 pub is-sound6-in-spec : {M : Type 1} → statement M
 is-sound6-in-spec = tie.close (tie.spec (λ c. search needs) returns (λ c κs. search needs) (λ c κs. search needs) returns-2)
