@@ -10,7 +10,9 @@ use borrow.Author.Tests.{leb-true, le-leb, lt-leb, ltb-true, lt-ltb, le-ltb}
 use Rattle.octets.proofs.BoolLaws.{and-left, and-right}
 use Rattle.octets.specs.Compare.{sameOctets}
 use Rattle.octets.specs.Count.{Octets, member, distinct, Counts, without}
-use Rattle.addresses.specs.Addresses.{Addresses, including, excluding, setOf, sound, joined}
+use Rattle.addresses.specs.Addresses.{Addresses, including, excluding, list4, list6, setOf, sound, emptySet4, emptySet6, joined}
+use Rattle.addresses.specs.declared.set4.Set4.{Set4}
+use Rattle.addresses.specs.declared.set6.Set6.{Set6}
 use Rattle.octets.proofs.CountLaws.{same-dec, same-yes, same-no, member-last, member-without, distinct-last, distinct-without, counts-eq, counts-list, counts-ext, one, counts-mark}
 
 -- sets with the same addresses are equal: their counts follow
@@ -81,6 +83,14 @@ sound-many count l h = rw (lt-leb count 4 h)
 pub sound-rest : (count : ℕ) (l : List Octets) → count ≤ 4 → sound count l ≡ distinct l
 unfolding sound
 sound-rest count l h = rw (le-leb count 4 h)
+
+-- ---- no address
+
+pub of-empty4 : {s : Set4} → s ≡ emptySet4 → (list4 s ≡ []) × (s .count ≡ 0)
+of-empty4 e = (ap list4 e, ap (λ (s : Set4). s .count) e)
+
+pub of-empty6 : {s : Set6} → s ≡ emptySet6 → (list6 s ≡ []) × (s .count ≡ 0)
+of-empty6 e = (ap list6 e, ap (λ (s : Set6). s .count) e)
 
 -- ---- an address more
 

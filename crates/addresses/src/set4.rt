@@ -1,15 +1,14 @@
 // The addresses of family 4.
-use crate::few;
+use crate::count;
 use octets::compare;
 ghost use mathlib.Core.Path.{_≡_};
 ghost use Prim.Native.Nat.{_≤_};
 ghost use mathlib.Core.Bool.{_||_};
-ghost use mathlib.Core.List.{[]};
 ghost use lib.Dec.{eqb, ltb};
 ghost use lib.ListN.{drop, length};
 ghost use Rattle.octets.specs.Compare.{sameOctets};
-ghost use Rattle.octets.specs.Count.{member, distinct, without};
-ghost use Rattle.addresses.specs.Addresses.{list4, sound, joined};
+ghost use Rattle.octets.specs.Count.{member, distinct};
+ghost use Rattle.addresses.specs.Addresses.{octets4, list4, sound, counted4, emptySet4, Added, Removed};
 
 #[repr(C)]
 pub struct Addr4 {
@@ -23,7 +22,7 @@ pub struct Set4 {
     pub count: u8,
 }
 
-fn same4(a: Addr4, b: Addr4) -> bool
+fn is_same4(a: Addr4, b: Addr4) -> bool
     ensures { λ r. ⌜ r ≡ sameOctets (a .octets) (b .octets) ⌝ }
 {
     let o = a.octets;
@@ -35,11 +34,11 @@ fn same4(a: Addr4, b: Addr4) -> bool
 fn has4_from(s: Set4, a: Addr4, from: usize) -> bool
     ensures { λ r. ⌜ r ≡ member (a .octets) (drop from (list4 s)) ⌝ }
 {
-    let n = few::few(s.count);
+    let n = count::held_places(s.count);
     let mut i = from;
     while i < n {
         let b = s.items[i];
-        if same4(b, a) {
+        if is_same4(b, a) {
             return true;
         }
         i += 1;
@@ -55,10 +54,10 @@ pub fn has4(s: Set4, a: Addr4) -> bool
 }
 
 // Whether no two of the addresses are equal.
-fn distinct4(s: Set4) -> bool
+fn is_distinct4(s: Set4) -> bool
     ensures { λ r. ⌜ r ≡ distinct (list4 s) ⌝ }
 {
-    let n = few::few(s.count);
+    let n = count::held_places(s.count);
     let mut i: usize = 0;
     while i < n {
         let a = s.items[i];
@@ -71,18 +70,18 @@ fn distinct4(s: Set4) -> bool
 }
 
 // Whether the set has the form that a set must have.
-pub fn sound4(s: Set4) -> bool
+pub fn is_sound4(s: Set4) -> bool
     ensures { λ r. ⌜ r ≡ sound (s .count) (list4 s) ⌝ }
 {
     if s.count > 4 {
         return false;
     }
-    distinct4(s)
+    is_distinct4(s)
 }
 
 // The set with the address behind the others, unless it is there or there is no room for it.
 pub fn join4(s: Set4, a: Addr4) -> Set4
-    ensures { λ r. ⌜ (list4 r ≡ joined (a .octets) (list4 s)) × (s .count ≤ 4 → r .count ≤ 4) ⌝ }
+    ensures { λ r. ⌜ Added octets4 a (counted4 s) (counted4 r) ⌝ }
 {
     if has4(s, a) {
         return s;
@@ -99,16 +98,16 @@ pub fn join4(s: Set4, a: Addr4) -> Set4
 
 // The set without the address; the others keep their order.
 pub fn without4(s: Set4, a: Addr4) -> Set4
-    ensures { λ r. ⌜ (list4 r ≡ without (a .octets) (list4 s)) × (r .count ≤ 4) ⌝ }
+    ensures { λ r. ⌜ Removed octets4 a (counted4 s) (counted4 r) ⌝ }
 {
-    let n = few::few(s.count);
+    let n = count::held_places(s.count);
     let mut items = s.items;
     let mut i: usize = 0;
     let mut j: usize = 0;
     while i < n {
         let b = s.items[i];
         i += 1;
-        if !same4(b, a) {
+        if !is_same4(b, a) {
             items[j] = b;
             j += 1;
         }
@@ -123,18 +122,18 @@ pub fn without4(s: Set4, a: Addr4) -> Set4
 pub fn count4(s: Set4) -> usize
     ensures { λ r. ⌜ (r ≡ length (list4 s)) × (r ≤ 4) ⌝ }
 {
-    few::few(s.count)
+    count::held_places(s.count)
 }
 
 // Whether the set has no address.
-pub fn empty4(s: Set4) -> bool
+pub fn is_empty4(s: Set4) -> bool
     ensures { λ r. ⌜ r ≡ eqb (length (list4 s)) 0 ⌝ }
 {
     s.count == 0
 }
 
 // Whether the address is there, or there is room for it.
-pub fn fits4(s: Set4, a: Addr4) -> bool
+pub fn has_room4(s: Set4, a: Addr4) -> bool
     ensures { λ r. ⌜ r ≡ (member (a .octets) (list4 s) || ltb (length (list4 s)) 4) ⌝ }
 {
     if s.count < 4 {
@@ -144,8 +143,8 @@ pub fn fits4(s: Set4, a: Addr4) -> bool
 }
 
 // The set of no addresses.
-pub fn none4() -> Set4
-    ensures { λ r. ⌜ (list4 r ≡ []) × (r .count ≡ 0) ⌝ }
+pub fn empty_set4() -> Set4
+    ensures { λ r. ⌜ r ≡ emptySet4 ⌝ }
 {
     let zeros = [0u8; 4];
     let blank = Addr4 { octets: zeros };

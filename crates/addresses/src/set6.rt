@@ -1,15 +1,14 @@
 // The addresses of family 6.
-use crate::few;
+use crate::count;
 use octets::compare;
 ghost use mathlib.Core.Path.{_≡_};
 ghost use Prim.Native.Nat.{_≤_};
 ghost use mathlib.Core.Bool.{_||_};
-ghost use mathlib.Core.List.{[]};
 ghost use lib.Dec.{eqb, ltb};
 ghost use lib.ListN.{drop, length};
 ghost use Rattle.octets.specs.Compare.{sameOctets};
-ghost use Rattle.octets.specs.Count.{member, distinct, without};
-ghost use Rattle.addresses.specs.Addresses.{list6, sound, joined};
+ghost use Rattle.octets.specs.Count.{member, distinct};
+ghost use Rattle.addresses.specs.Addresses.{octets6, list6, sound, counted6, emptySet6, Added, Removed};
 
 #[repr(C)]
 pub struct Addr6 {
@@ -23,7 +22,7 @@ pub struct Set6 {
     pub count: u8,
 }
 
-fn same6(a: Addr6, b: Addr6) -> bool
+fn is_same6(a: Addr6, b: Addr6) -> bool
     ensures { λ r. ⌜ r ≡ sameOctets (a .octets) (b .octets) ⌝ }
 {
     let o = a.octets;
@@ -35,11 +34,11 @@ fn same6(a: Addr6, b: Addr6) -> bool
 fn has6_from(s: Set6, a: Addr6, from: usize) -> bool
     ensures { λ r. ⌜ r ≡ member (a .octets) (drop from (list6 s)) ⌝ }
 {
-    let n = few::few(s.count);
+    let n = count::held_places(s.count);
     let mut i = from;
     while i < n {
         let b = s.items[i];
-        if same6(b, a) {
+        if is_same6(b, a) {
             return true;
         }
         i += 1;
@@ -55,10 +54,10 @@ pub fn has6(s: Set6, a: Addr6) -> bool
 }
 
 // Whether no two of the addresses are equal.
-fn distinct6(s: Set6) -> bool
+fn is_distinct6(s: Set6) -> bool
     ensures { λ r. ⌜ r ≡ distinct (list6 s) ⌝ }
 {
-    let n = few::few(s.count);
+    let n = count::held_places(s.count);
     let mut i: usize = 0;
     while i < n {
         let a = s.items[i];
@@ -71,18 +70,18 @@ fn distinct6(s: Set6) -> bool
 }
 
 // Whether the set has the form that a set must have.
-pub fn sound6(s: Set6) -> bool
+pub fn is_sound6(s: Set6) -> bool
     ensures { λ r. ⌜ r ≡ sound (s .count) (list6 s) ⌝ }
 {
     if s.count > 4 {
         return false;
     }
-    distinct6(s)
+    is_distinct6(s)
 }
 
 // The set with the address behind the others, unless it is there or there is no room for it.
 pub fn join6(s: Set6, a: Addr6) -> Set6
-    ensures { λ r. ⌜ (list6 r ≡ joined (a .octets) (list6 s)) × (s .count ≤ 4 → r .count ≤ 4) ⌝ }
+    ensures { λ r. ⌜ Added octets6 a (counted6 s) (counted6 r) ⌝ }
 {
     if has6(s, a) {
         return s;
@@ -99,16 +98,16 @@ pub fn join6(s: Set6, a: Addr6) -> Set6
 
 // The set without the address; the others keep their order.
 pub fn without6(s: Set6, a: Addr6) -> Set6
-    ensures { λ r. ⌜ (list6 r ≡ without (a .octets) (list6 s)) × (r .count ≤ 4) ⌝ }
+    ensures { λ r. ⌜ Removed octets6 a (counted6 s) (counted6 r) ⌝ }
 {
-    let n = few::few(s.count);
+    let n = count::held_places(s.count);
     let mut items = s.items;
     let mut i: usize = 0;
     let mut j: usize = 0;
     while i < n {
         let b = s.items[i];
         i += 1;
-        if !same6(b, a) {
+        if !is_same6(b, a) {
             items[j] = b;
             j += 1;
         }
@@ -123,18 +122,18 @@ pub fn without6(s: Set6, a: Addr6) -> Set6
 pub fn count6(s: Set6) -> usize
     ensures { λ r. ⌜ (r ≡ length (list6 s)) × (r ≤ 4) ⌝ }
 {
-    few::few(s.count)
+    count::held_places(s.count)
 }
 
 // Whether the set has no address.
-pub fn empty6(s: Set6) -> bool
+pub fn is_empty6(s: Set6) -> bool
     ensures { λ r. ⌜ r ≡ eqb (length (list6 s)) 0 ⌝ }
 {
     s.count == 0
 }
 
 // Whether the address is there, or there is room for it.
-pub fn fits6(s: Set6, a: Addr6) -> bool
+pub fn has_room6(s: Set6, a: Addr6) -> bool
     ensures { λ r. ⌜ r ≡ (member (a .octets) (list6 s) || ltb (length (list6 s)) 4) ⌝ }
 {
     if s.count < 4 {
@@ -144,8 +143,8 @@ pub fn fits6(s: Set6, a: Addr6) -> bool
 }
 
 // The set of no addresses.
-pub fn none6() -> Set6
-    ensures { λ r. ⌜ (list6 r ≡ []) × (r .count ≡ 0) ⌝ }
+pub fn empty_set6() -> Set6
+    ensures { λ r. ⌜ r ≡ emptySet6 ⌝ }
 {
     let zeros = [0u8; 16];
     let blank = Addr6 { octets: zeros };

@@ -7,12 +7,12 @@ use native.Mathlib.Nat.{zero-add, add-zero, zero-mul, suc-mul, add-comm, add-ass
 use native.Mathlib.Omega.{arith}
 use lib.Dec.{leb}
 use borrow.Author.Tests.{le-leb, eq-eqb, ne-eqb}
-use lib.ListN.{length, getD, set, take, drop, length-map, length-drop, drop-of-length-le, List·getD-map}
+use lib.ListN.{length, getD, set, take, drop, length-map, length-take, length-drop, drop-of-length-le, List·getD-map}
 use lib.Seq.{take-at, drop-at, drop-append-add, drop-drop, take-add, take-take, length-take-le, getD-take, getD-drop}
 use Rattle.octets.specs.Write.{put, Laid, Wrote}
 use Rattle.octets.proofs.WriteLaws.{written}
 use Rattle.octets.specs.Count.{Octets, distinct, member}
-use Rattle.addresses.specs.Addresses.{list4, list6, sound}
+use Rattle.addresses.specs.Addresses.{list4, list6, sound, Counted, listed}
 use Rattle.dname.specs.Name.{sameName, nameOf, isFull}
 use Rattle.zone.specs.Meaning.{used, inOrder}
 use Rattle.zone.specs.Survey.{named}
@@ -173,11 +173,14 @@ pub named-of : (e : Entry) → used e ≡ true → (n : Octets) (hit : Bool) →
 unfolding named
 named-of e u n hit q = q ∙ sym (rw u)
 
-pub sound-few : (c : ℕ) (l : List Octets) → c < 2 → length l ≤ c → true ≡ sound c l
+sound-few : (c : ℕ) (l : List Octets) → c < 2 → length l ≤ c → true ≡ sound c l
 unfolding sound distinct member
 sound-few c [] h k = rw (le-leb c 4 (omega arith))
 sound-few c (x ∷ []) h k = rw (le-leb c 4 (omega arith))
 sound-few c (x ∷ y ∷ l) h k = absurd (omega arith)
+
+pub few-sound : {A : Type 0} (f : A → Octets) (s : Counted A) → s .count < 2 → true ≡ sound (s .count) (listed f s)
+few-sound f s h = sound-few (s .count) (listed f s) h (simp (length-map, length-take) (omega arith))
 
 -- ---- four things
 

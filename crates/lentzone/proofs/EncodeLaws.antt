@@ -14,9 +14,11 @@ use Rattle.zone.specs.Survey.{placeOf}
 use Rattle.octets.specs.Write.{put, Laid, WroteIf}
 use Rattle.octets.proofs.WriteLaws.{written, more}
 use Rattle.lentzone.specs.Decode.{part, addr4, addr6, set4In, set6In, entryIn, rows, zoneIn}
-use Rattle.lentzone.specs.Encode.{joined, octets4, octets6, set4Octets, set6Octets, entryOctets, entriesOctets, octetsOf, Wide, SizedEntry, SizedEntries, EveryZoneIsHeld, HeldOnce}
+use Rattle.addresses.specs.Addresses.{octets4, octets6, Counted}
+use Rattle.addresses.proofs.CountedLaws.{Four}
+use Rattle.lentzone.specs.Encode.{joined, set4Octets, set6Octets, entryOctets, entriesOctets, octetsOf, Wide, SizedEntry, SizedEntries, EveryZoneIsHeld, HeldOnce}
 use Rattle.lentzone.proofs.DecodeLaws.{four}
-use Rattle.lentzone.specs.Inner.{recordsOctets, SizedRecords, PutAddress}
+use Rattle.lentzone.specs.Inner.{recordsOctets, SizedRecords, PutAddress, PutSet}
 
 -- ---- octets read and put together again
 
@@ -216,15 +218,20 @@ joined-four : (a b c d : List ℕ) (k : ℕ) → a ++ b ++ c ++ d ++ (k ∷ []) 
 joined-four a b c d k = simp append-assoc
 
 -- four addresses of one family and their count, written one behind the other
-pub put-four : {A : Type 0} (octets : A → List ℕ) (w : ℕ) (l : List A) (d : A) (k : ℕ) {b₀ b₁ b₂ b₃ b₄ b₅ : List ℕ} {a₀ a₁ a₂ a₃ a₄ a₅ : ℕ} → length l ≡ 4
-    → PutAddress w (octets (getD l 0 d)) b₀ a₀ b₁ a₁ → PutAddress w (octets (getD l 1 d)) b₁ a₁ b₂ a₂ → PutAddress w (octets (getD l 2 d)) b₂ a₂ b₃ a₃ → PutAddress w (octets (getD l 3 d)) b₃ a₃ b₄ a₄
-    → Laid b₄ a₄ (k ∷ []) b₅ a₅ → Wide w 4 (map octets l) × WroteIf b₀ a₀ (joined (map octets l) (k ∷ [])) b₅ a₅
-put-four {A} octets w l d k n one two three last count =
-    let items : l ≡ getD l 0 d ∷ getD l 1 d ∷ getD l 2 d ∷ getD l 3 d ∷ [] = four l d n in (
-      subst (λ (x : List A). Wide w 4 (map octets x)) (sym items) (one .size, (two .size, (three .size, (last .size, tt)))),
-      wrote-as (joined-four (octets (getD l 0 d)) (octets (getD l 1 d)) (octets (getD l 2 d)) (octets (getD l 3 d)) k ∙ ap (λ (x : List A). joined (map octets x) (k ∷ [])) (sym items))
-          (more (more (more (more (written (one .wrote)) (two .wrote)) (three .wrote)) (last .wrote)) count),
-    )
+module _ {A : Type 0} (octets : A → List ℕ) (w : ℕ) (s : Counted A) (d : A) (size : Four s) where
+  abbrev item : ℕ → List ℕ
+  item i = octets (getD (s .items) i d)
+
+  pub put-four : {b₀ b₁ b₂ b₃ b₄ b₅ : List ℕ} {a₀ a₁ a₂ a₃ a₄ a₅ : ℕ} → PutAddress w (item 0) b₀ a₀ b₁ a₁ → PutAddress w (item 1) b₁ a₁ b₂ a₂ → PutAddress w (item 2) b₂ a₂ b₃ a₃
+      → PutAddress w (item 3) b₃ a₃ b₄ a₄ → Laid b₄ a₄ (s .count ∷ []) b₅ a₅ → PutSet w octets s b₀ a₀ b₅ a₅
+  put-four one two three last count =
+      let items = sym (four (s .items) d size) in
+      record {
+        sized = subst (λ (x : List A). Wide w 4 (map octets x)) items (one .size, (two .size, (three .size, (last .size, tt))));
+        wrote =
+            wrote-as (joined-four (item 0) (item 1) (item 2) (item 3) (s .count) ∙ ap (λ (x : List A). joined (map octets x) (s .count ∷ [])) items)
+            (more (more (more (more (written (one .wrote)) (two .wrote)) (three .wrote)) (last .wrote)) count);
+      }
 
 pub records-joined : (r : Records) → r .dhcid .octets ++ set4Octets (r .v4) ++ set6Octets (r .v6) ≡ recordsOctets r
 records-joined r = append-assoc (r .dhcid .octets) (set4Octets (r .v4)) (set6Octets (r .v6))

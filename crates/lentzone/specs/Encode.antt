@@ -3,9 +3,8 @@ use mathlib.Core.Path.{_≡_}
 use mathlib.Core.List.{List, [], _∷_, _++_, map}
 use Prim.Native.Nat.{ℕ, zero, suc}
 use lib.ListN.{length}
-use Rattle.addresses.specs.declared.set4.Addr4.{Addr4}
+use Rattle.addresses.specs.Addresses.{octets4, octets6}
 use Rattle.addresses.specs.declared.set4.Set4.{Set4}
-use Rattle.addresses.specs.declared.set6.Addr6.{Addr6}
 use Rattle.addresses.specs.declared.set6.Set6.{Set6}
 use Rattle.zone.specs.declared.entry.Entry.{Entry}
 use Rattle.zone.specs.declared.Zone.{Zone}
@@ -15,12 +14,6 @@ use Rattle.lentzone.specs.Decode.{zoneIn}
 abbrev pub joined : List (List ℕ) → List ℕ → List ℕ
 joined [] l = l
 joined (o ∷ os) l = o ++ joined os l
-
-abbrev pub octets4 : Addr4 → List ℕ
-octets4 a = a .octets
-
-abbrev pub octets6 : Addr6 → List ℕ
-octets6 a = a .octets
 
 abbrev pub set4Octets : Set4 → List ℕ
 set4Octets s = joined (map octets4 (s .items)) (s .count ∷ [])

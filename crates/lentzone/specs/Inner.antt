@@ -1,13 +1,12 @@
 -- What inner functions promise. No promise of an exported call cites these.
 use mathlib.Core.Path.{_≡_}
 use mathlib.Core.Bool.{false, cond, _&&_}
-use mathlib.Core.List.{List, _++_, map}
+use mathlib.Core.List.{List, [], _∷_, _++_, map}
 use Prim.Native.Nat.{ℕ, _*_, _≤_}
 use lib.Dec.{eqb, ltb}
 use lib.ListN.{length, set, take, drop, replicate}
 use Rattle.octets.specs.Write.{Laid, WroteIf}
-use Rattle.addresses.specs.declared.set4.Set4.{Set4}
-use Rattle.addresses.specs.declared.set6.Set6.{Set6}
+use Rattle.addresses.specs.Addresses.{octets4, octets6, Counted}
 use Rattle.dname.specs.declared.name.Name.{Name}
 use Rattle.zone.specs.declared.entry.Entry.{Entry}
 use Rattle.zone.specs.declared.entry.Records.{Records}
@@ -17,7 +16,7 @@ use Rattle.zone.specs.Meaning.{inOrder}
 use Rattle.zone.specs.Survey.{fingerprintWords, named, recordsOf, Surveyed}
 use Rattle.lentzone.specs.declared.look.Look.{Look}
 use Rattle.lentzone.specs.Decode.{entryIn, zoneIn, OnePlace}
-use Rattle.lentzone.specs.Encode.{octets4, octets6, set4Octets, set6Octets, entryOctets, Wide, SizedEntry}
+use Rattle.lentzone.specs.Encode.{joined, set4Octets, set6Octets, entryOctets, Wide, SizedEntry}
 
 -- what a used place comes to
 pub record Looked (n : List ℕ) (e : Entry) (r : Look) : Type 0 where
@@ -60,13 +59,9 @@ pub record PutAddress (n : ℕ) (ys b : List ℕ) (at : ℕ) (after : List ℕ) 
   pub size : length ys ≡ n
   pub wrote : Laid b at ys after end
 
-pub record PutSet4 (s : Set4) (b : List ℕ) (at : ℕ) (after : List ℕ) (end : ℕ) : Type 0 where
-  pub sized : Wide 4 4 (map octets4 (s .items))
-  pub wrote : WroteIf b at (set4Octets s) after end
-
-pub record PutSet6 (s : Set6) (b : List ℕ) (at : ℕ) (after : List ℕ) (end : ℕ) : Type 0 where
-  pub sized : Wide 16 4 (map octets6 (s .items))
-  pub wrote : WroteIf b at (set6Octets s) after end
+pub record PutSet {A : Type 0} (width : ℕ) (octets : A → List ℕ) (s : Counted A) (b : List ℕ) (at : ℕ) (after : List ℕ) (end : ℕ) : Type 0 where
+  pub sized : Wide width 4 (map octets (s .items))
+  pub wrote : WroteIf b at (joined (map octets (s .items)) (s .count ∷ [])) after end
 
 pub record PutRecords (r : Records) (b : List ℕ) (at : ℕ) (after : List ℕ) (end : ℕ) : Type 0 where
   pub sized : SizedRecords r

@@ -13,51 +13,45 @@ ghost use mathlib.Core.Bool.{_&&_};
 ghost use lib.ListN.{length};
 ghost use Rattle.addresses.specs.Addresses.{list4, list6, sound};
 ghost use Rattle.zone.specs.Survey.{recordsOf};
-ghost use Rattle.lentzone.specs.Decode.{set4In, set6In, entryIn};
+ghost use Rattle.lentzone.specs.Decode.{addr4, addr6, set4In, set6In, entryIn};
 
-fn octets4(s: &[u8]) -> [u8; 4]
+fn addr4_in(s: &[u8]) -> Addr4
     requires { ⌜ length (now s) ≡ 4 ⌝ }
-    ensures { λ r. ⌜ r ≡ now (s .entry) ⌝ }
+    ensures { λ r. ⌜ r ≡ addr4 (now (s .entry)) ⌝ }
 {
     let mut o = [0u8; 4];
     write::put_octets(&mut o, 0, s);
-    o
+    Addr4 { octets: o }
 }
 
-fn octets16(s: &[u8]) -> [u8; 16]
+fn addr6_in(s: &[u8]) -> Addr6
     requires { ⌜ length (now s) ≡ 16 ⌝ }
-    ensures { λ r. ⌜ r ≡ now (s .entry) ⌝ }
+    ensures { λ r. ⌜ r ≡ addr6 (now (s .entry)) ⌝ }
 {
     let mut o = [0u8; 16];
     write::put_octets(&mut o, 0, s);
-    o
+    Addr6 { octets: o }
 }
 
-fn octets35(s: &[u8]) -> [u8; 35]
+fn dhcid_in(s: &[u8]) -> Dhcid
     requires { ⌜ length (now s) ≡ 35 ⌝ }
-    ensures { λ r. ⌜ r ≡ now (s .entry) ⌝ }
+    ensures { λ r. ⌜ r .octets ≡ now (s .entry) ⌝ }
 {
     let mut o = [0u8; 35];
     write::put_octets(&mut o, 0, s);
-    o
+    Dhcid { octets: o }
 }
 
 fn set4_in(s: &[u8]) -> Set4
     requires { ⌜ length (now s) ≡ 17 ⌝ }
     ensures { λ r. ⌜ r ≡ set4In (now (s .entry)) ⌝ }
 {
-    let a = octets4(&s[0..4]);
-    let b = octets4(&s[4..8]);
-    let c = octets4(&s[8..12]);
-    let d = octets4(&s[12..16]);
-    let items = [
-        Addr4 { octets: a },
-        Addr4 { octets: b },
-        Addr4 { octets: c },
-        Addr4 { octets: d },
-    ];
+    let a = addr4_in(&s[0..4]);
+    let b = addr4_in(&s[4..8]);
+    let c = addr4_in(&s[8..12]);
+    let d = addr4_in(&s[12..16]);
     Set4 {
-        items: items,
+        items: [a, b, c, d],
         count: s[16],
     }
 }
@@ -66,18 +60,12 @@ fn set6_in(s: &[u8]) -> Set6
     requires { ⌜ length (now s) ≡ 65 ⌝ }
     ensures { λ r. ⌜ r ≡ set6In (now (s .entry)) ⌝ }
 {
-    let a = octets16(&s[0..16]);
-    let b = octets16(&s[16..32]);
-    let c = octets16(&s[32..48]);
-    let d = octets16(&s[48..64]);
-    let items = [
-        Addr6 { octets: a },
-        Addr6 { octets: b },
-        Addr6 { octets: c },
-        Addr6 { octets: d },
-    ];
+    let a = addr6_in(&s[0..16]);
+    let b = addr6_in(&s[16..32]);
+    let c = addr6_in(&s[32..48]);
+    let d = addr6_in(&s[48..64]);
     Set6 {
-        items: items,
+        items: [a, b, c, d],
         count: s[64],
     }
 }
@@ -87,19 +75,19 @@ pub(crate) fn records_in(e: &[u8]) -> Records
     requires { ⌜ length (now e) ≡ 374 ⌝ }
     ensures { λ r. ⌜ r ≡ recordsOf (entryIn (now (e .entry))) ⌝ }
 {
-    let dhcid = octets35(&e[257..292]);
+    let dhcid = dhcid_in(&e[257..292]);
     let v4 = set4_in(&e[292..309]);
     let v6 = set6_in(&e[309..374]);
     Records {
         kind: e[0],
-        dhcid: Dhcid { octets: dhcid },
+        dhcid: dhcid,
         v4: v4,
         v6: v6,
     }
 }
 
 // Whether the addresses have their form; a set of one address or none always has it.
-fn sound4(s: &[u8]) -> bool
+fn is_sound4_in(s: &[u8]) -> bool
     requires { ⌜ length (now s) ≡ 17 ⌝ }
     ensures { λ r. ⌜ r ≡ sound (set4In (now (s .entry)) .count) (list4 (set4In (now (s .entry)))) ⌝ }
 {
@@ -107,10 +95,10 @@ fn sound4(s: &[u8]) -> bool
         return true;
     }
     let v4 = set4_in(s);
-    set4::sound4(v4)
+    set4::is_sound4(v4)
 }
 
-fn sound6(s: &[u8]) -> bool
+fn is_sound6_in(s: &[u8]) -> bool
     requires { ⌜ length (now s) ≡ 65 ⌝ }
     ensures { λ r. ⌜ r ≡ sound (set6In (now (s .entry)) .count) (list6 (set6In (now (s .entry)))) ⌝ }
 {
@@ -118,7 +106,7 @@ fn sound6(s: &[u8]) -> bool
         return true;
     }
     let v6 = set6_in(s);
-    set6::sound6(v6)
+    set6::is_sound6(v6)
 }
 
 // Whether the address sets of a place have their form.
@@ -126,8 +114,8 @@ pub(crate) fn are_sets_sound(e: &[u8]) -> bool
     requires { ⌜ length (now e) ≡ 374 ⌝ }
     ensures { λ r. ⌜ r ≡ (sound (entryIn (now (e .entry)) .v4 .count) (list4 (entryIn (now (e .entry)) .v4)) && sound (entryIn (now (e .entry)) .v6 .count) (list6 (entryIn (now (e .entry)) .v6))) ⌝ }
 {
-    if !sound4(&e[292..309]) {
+    if !is_sound4_in(&e[292..309]) {
         return false;
     }
-    sound6(&e[309..374])
+    is_sound6_in(&e[309..374])
 }

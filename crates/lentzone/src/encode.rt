@@ -6,8 +6,9 @@ use addresses::set6::Set6;
 use dname::name::Name;
 use octets::write;
 use zone::entry::Records;
+ghost use Rattle.addresses.specs.Addresses.{octets4, octets6, counted4, counted6};
 ghost use Rattle.zone.specs.Survey.{placeOf};
-ghost use Rattle.lentzone.specs.Inner.{PutAddress, PutSet4, PutSet6, PutRecords, PutEntry};
+ghost use Rattle.lentzone.specs.Inner.{PutAddress, PutSet, PutRecords, PutEntry};
 
 fn put4(a: Addr4, z: &mut [u8], at: usize) -> usize
     ensures { λ r. ⌜ PutAddress 4 (a .octets) (now (z .entry)) at (now (z .exit)) r ⌝ }
@@ -16,7 +17,7 @@ fn put4(a: Addr4, z: &mut [u8], at: usize) -> usize
 }
 
 fn put_set4(s: Set4, z: &mut [u8], at: usize) -> usize
-    ensures { λ r. ⌜ PutSet4 s (now (z .entry)) at (now (z .exit)) r ⌝ }
+    ensures { λ r. ⌜ PutSet 4 octets4 (counted4 s) (now (z .entry)) at (now (z .exit)) r ⌝ }
 {
     let p = put4(s.items[0], z, at);
     let q = put4(s.items[1], z, p);
@@ -32,7 +33,7 @@ fn put6(a: Addr6, z: &mut [u8], at: usize) -> usize
 }
 
 fn put_set6(s: Set6, z: &mut [u8], at: usize) -> usize
-    ensures { λ r. ⌜ PutSet6 s (now (z .entry)) at (now (z .exit)) r ⌝ }
+    ensures { λ r. ⌜ PutSet 16 octets6 (counted6 s) (now (z .entry)) at (now (z .exit)) r ⌝ }
 {
     let p = put6(s.items[0], z, at);
     let q = put6(s.items[1], z, p);

@@ -38,11 +38,11 @@ fn clear_family(e: Records, family: u8) -> Records
 {
     let mut f = e;
     if family == 4 {
-        let none = set4::none4();
+        let none = set4::empty_set4();
         f.v4 = none;
         return f;
     }
-    let none = set6::none6();
+    let none = set6::empty_set6();
     f.v6 = none;
     f
 }
@@ -52,9 +52,9 @@ fn clear_all(e: Records) -> Records
     ensures { λ r. ⌜ Makes emptied e r ⌝ }
 {
     let mut f = e;
-    let none4 = set4::none4();
+    let none4 = set4::empty_set4();
     f.v4 = none4;
-    let none6 = set6::none6();
+    let none6 = set6::empty_set6();
     f.v6 = none6;
     f
 }
@@ -79,11 +79,11 @@ pub(crate) fn has_room(e: Records, family: u8, a: Address) -> bool
     if family == 4 {
         let v4 = e.v4;
         let x = addr4(a);
-        return set4::fits4(v4, x);
+        return set4::has_room4(v4, x);
     }
     let v6 = e.v6;
     let x = addr6(a);
-    set6::fits6(v6, x)
+    set6::has_room6(v6, x)
 }
 
 // Whether the address is there.
@@ -178,8 +178,8 @@ pub(crate) fn part(e: Records, family: u8, a: Address) -> Records
 pub(crate) fn fresh(d: Dhcid, family: u8, a: Address) -> Records
     ensures { λ r. ⌜ Fresh d family a r ⌝ }
 {
-    let none4 = set4::none4();
-    let none6 = set6::none6();
+    let none4 = set4::empty_set4();
+    let none6 = set6::empty_set6();
     let bare = Records {
         kind: 2,
         dhcid: d,

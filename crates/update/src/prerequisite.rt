@@ -26,9 +26,9 @@ pub fn is_empty(e: Records) -> bool
     ensures { λ r. ⌜ ((n : Name) → r ≡ empty (hostOf (placeOf n e))) ⌝ }
 {
     let v4 = e.v4;
-    if !set4::empty4(v4) {
+    if !set4::is_empty4(v4) {
         return false;
     }
     let v6 = e.v6;
-    set6::empty6(v6)
+    set6::is_empty6(v6)
 }

@@ -46,10 +46,10 @@ pub struct Records {
 pub(crate) fn are_sets_sound(v4: Set4, v6: Set6) -> bool
     ensures { λ r. ⌜ r ≡ (sound (v4 .count) (list4 v4) && sound (v6 .count) (list6 v6)) ⌝ }
 {
-    if !set4::sound4(v4) {
+    if !set4::is_sound4(v4) {
         return false;
     }
-    set6::sound6(v6)
+    set6::is_sound6(v6)
 }
 
 // Whether a used place is in order: its kind, whether its name is full, and whether its sets have

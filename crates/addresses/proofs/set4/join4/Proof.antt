@@ -1,55 +1,19 @@
-use mathlib.Core.Path.{_≡_, sym, _∙_, ap}
+use mathlib.Core.Path.{sym, _∙_}
 use native.Mathlib.Omega.{arith}
-use lib.ListN.{length}
-use Rattle.octets.specs.Count.{Octets}
-use Rattle.addresses.specs.Addresses.{list4}
-use Rattle.addresses.specs.declared.set4.Addr4.{Addr4}
-use Rattle.addresses.proofs.PartLaws.{places4, part, part-few, part-more, part-length}
-use Rattle.addresses.proofs.SetLaws.{joined-there, joined-full, joined-new}
 use borrow.Author.Needs.{needs}
+use Rattle.addresses.specs.Addresses.{octets4, counted4}
+use Rattle.addresses.proofs.CountedLaws.{four4}
+use Rattle.addresses.proofs.ChangeLaws.{added-there, added-full, added-new}
 use Rattle.addresses.proofs.set4.join4.Statement.{statement}
 use Rattle.addresses.proofs.set4.join4.Tie as tie
-
-abbrev oct : Addr4 → Octets
-oct a = a .octets
-
-has4-requires : tie.Need-has4-requires
-has4-requires c κs = search needs
-
-returns : tie.Need-returns
-returns c =
-    let s = c .before .before in
-    (sym (joined-there (s .args .a .octets) (list4 (s .args .s)) (sym (c .before .has4 .ensures) ∙ c .if1 .taken)), λ h. h)
-
-returns-2 : tie.Need-returns-2
-returns-2 c =
-    let s = c .before .before .before .before in
-    let p = places4 (s .args .s) (s .good .0 .1 .1 .0 .1 .0 .1) in
-    let q = part-few oct (s .args .s .items) (s .args .s .count) 4 p (omega arith) (omega arith) (λ h. absurd (omega arith)) in
-    let n : length (part oct (s .args .s .items) 4) ≡ 4 = part-length oct (s .args .s .items) 4 (omega arith) in
-    let m : length (list4 (s .args .s)) ≡ 4 = ap length q ∙ n in
-    (sym (joined-full (s .args .a .octets) (list4 (s .args .s)) (sym (c .before .before .before .has4 .ensures) ∙ c .before .before .if1 .left) (omega arith)), λ h. h)
-
-cast-at : tie.Need-cast-at
-cast-at c = search needs
-
-mul-a : tie.Need-mul-a
-mul-a c = search needs
-
-element-set-from-a : tie.Need-element-set-from-a
-element-set-from-a c = search needs
-
-add-t : tie.Need-add-t
-add-t c = search needs
-
-returns-3 : tie.Need-returns-3
-returns-3 c =
-    let s = c .before .before .before .before .before .before in
-    let p = places4 (s .args .s) (s .good .0 .1 .1 .0 .1 .0 .1) in
-    let n : length (list4 (s .args .s)) ≡ s .args .s .count = part-length oct (s .args .s .items) (s .args .s .count) (omega arith) in
-    (part-more oct (s .args .s .items) (s .args .s .count) (omega arith) (s .args .a) (omega arith) ∙ sym (joined-new (s .args .a .octets) (list4 (s .args .s)) (sym (c .before .before .before .before .before .has4 .ensures) ∙ c .before .before .before .before .if1 .left) (omega arith)), λ h. omega arith)
 
 pub join4-spec : {M : Type 1} → statement M
 join4-spec =
     tie.close
-    (tie.spec has4-requires returns returns-2 cast-at mul-a element-set-from-a add-t returns-3)
+    (tie.spec (λ c κs. search needs) (λ c. added-there octets4 _ _ (sym (c .before .has4 .ensures) ∙ c .if1 .taken))
+    (λ c. let s = c .before .before .before .before in
+    added-full octets4 _ (counted4 (s .args .s)) (four4 (s .args .s) (s .good .0 .1 .1 .0 .1 .0 .1)) (sym (c .before .before .before .has4 .ensures) ∙ c .before .before .if1 .left) (omega arith))
+    (λ c. search needs) (λ c. search needs) (λ c. search needs) (λ c. search needs)
+    (λ c. let left = c .before .before .before .before in
+    let s = left .before .before in
+    added-new octets4 _ (counted4 (s .args .s)) (four4 (s .args .s) (s .good .0 .1 .1 .0 .1 .0 .1)) (sym (left .before .has4 .ensures) ∙ left .if1 .left) (omega arith)))

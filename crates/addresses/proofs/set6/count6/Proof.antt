@@ -1,21 +1,15 @@
-use Rattle.octets.specs.Count.{Octets}
-use Rattle.addresses.specs.declared.set6.Addr6.{Addr6}
-use Rattle.addresses.proofs.PartLaws.{places6, part-count}
+use mathlib.Core.Path.{sym, _∙_}
+use native.Mathlib.Omega.{arith}
 use borrow.Author.Needs.{needs}
+use Rattle.addresses.specs.Addresses.{octets6, counted6}
+use Rattle.addresses.proofs.CountedLaws.{four6, count-length}
 use Rattle.addresses.proofs.set6.count6.Statement.{statement}
 use Rattle.addresses.proofs.set6.count6.Tie as tie
-
-abbrev oct : Addr6 → Octets
-oct a = a .octets
-
-few-requires : tie.Need-few-requires
-few-requires c κs = search needs
 
 returns : tie.Need-returns
 returns c =
     let s = c .before in
-    let f = c .few .ensures in
-    (part-count oct (s .args .s .items) (s .args .s .count) (c .few .result) (places6 (s .args .s) (s .good .0 .1 .1 .0 .1 .0 .1)) (f .0) (f .1) (f .2), f .0)
+    (c .held-places .ensures ∙ sym (count-length octets6 (counted6 (s .args .s)) (four6 (s .args .s) (s .good .0 .1 .1 .0 .1 .0 .1))), omega arith)
 
 pub count6-spec : {M : Type 1} → statement M
-count6-spec = tie.close (tie.spec few-requires returns)
+count6-spec = tie.close (tie.spec (λ c κs. search needs) returns)

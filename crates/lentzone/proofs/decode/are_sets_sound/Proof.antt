@@ -5,49 +5,49 @@ use borrow.Author.Needs.{needs}
 use Rattle.lentzone.proofs.decode.are_sets_sound.Statement.{statement}
 use Rattle.lentzone.proofs.decode.are_sets_sound.Tie as tie
 
-sub-sound4 : tie.Need-sub-sound4
-sub-sound4 c = search needs
+sub-is-sound4-in : tie.Need-sub-is-sound4-in
+sub-is-sound4-in c = search needs
 
-part-sound4-start : tie.Need-part-sound4-start
-part-sound4-start c = search needs
+part-is-sound4-in-start : tie.Need-part-is-sound4-in-start
+part-is-sound4-in-start c = search needs
 
-part-sound4-end : tie.Need-part-sound4-end
-part-sound4-end c = search needs
+part-is-sound4-in-end : tie.Need-part-is-sound4-in-end
+part-is-sound4-in-end c = search needs
 
-sound4-requires : tie.Need-sound4-requires
-sound4-requires c κs = search needs
+is-sound4-in-requires : tie.Need-is-sound4-in-requires
+is-sound4-in-requires c κs = search needs
 
 returns : tie.Need-returns
 unfolding part
-returns c = simp (sym (c .before .sound4 .ensures) ∙ not-true _ (c .if1 .taken))
+returns c = simp (sym (c .before .is-sound4-in .ensures) ∙ not-true _ (c .if1 .taken))
 
-sub-sound6 : tie.Need-sub-sound6
-sub-sound6 c = search needs
+sub-is-sound6-in : tie.Need-sub-is-sound6-in
+sub-is-sound6-in c = search needs
 
-part-sound6-start : tie.Need-part-sound6-start
-part-sound6-start c = search needs
+part-is-sound6-in-start : tie.Need-part-is-sound6-in-start
+part-is-sound6-in-start c = search needs
 
-part-sound6-end : tie.Need-part-sound6-end
-part-sound6-end c = search needs
+part-is-sound6-in-end : tie.Need-part-is-sound6-in-end
+part-is-sound6-in-end c = search needs
 
-sound6-requires : tie.Need-sound6-requires
-sound6-requires c κs = search needs
+is-sound6-in-requires : tie.Need-is-sound6-in-requires
+is-sound6-in-requires c κs = search needs
 
 returns-2 : tie.Need-returns-2
 unfolding part
-returns-2 c = simp (sym (c .before .before .before .sound4 .ensures) ∙ not-false _ (c .before .before .if1 .left)) (c .sound6 .ensures)
+returns-2 c = simp (sym (c .before .before .before .is-sound4-in .ensures) ∙ not-false _ (c .before .before .if1 .left)) (c .is-sound6-in .ensures)
 
 pub are-sets-sound-spec : {M : Type 1} → statement M
 are-sets-sound-spec =
     tie.close
     (tie.spec
-    sub-sound4
-    part-sound4-start
-    part-sound4-end
-    sound4-requires
+    sub-is-sound4-in
+    part-is-sound4-in-start
+    part-is-sound4-in-end
+    is-sound4-in-requires
     returns
-    sub-sound6
-    part-sound6-start
-    part-sound6-end
-    sound6-requires
+    sub-is-sound6-in
+    part-is-sound6-in-start
+    part-is-sound6-in-end
+    is-sound6-in-requires
     returns-2)

@@ -3,17 +3,17 @@ use borrow.Author.Needs.{needs}
 use Rattle.lentzone.proofs.decode.records_in.Statement.{statement}
 use Rattle.lentzone.proofs.decode.records_in.Tie as tie
 
-sub-octets35 : tie.Need-sub-octets35
-sub-octets35 c = search needs
+sub-dhcid-in : tie.Need-sub-dhcid-in
+sub-dhcid-in c = search needs
 
-part-octets35-start : tie.Need-part-octets35-start
-part-octets35-start c = search needs
+part-dhcid-in-start : tie.Need-part-dhcid-in-start
+part-dhcid-in-start c = search needs
 
-part-octets35-end : tie.Need-part-octets35-end
-part-octets35-end c = search needs
+part-dhcid-in-end : tie.Need-part-dhcid-in-end
+part-dhcid-in-end c = search needs
 
-octets35-requires : tie.Need-octets35-requires
-octets35-requires c κs = search needs
+dhcid-in-requires : tie.Need-dhcid-in-requires
+dhcid-in-requires c κs = search needs
 
 sub-set4-in : tie.Need-sub-set4-in
 sub-set4-in c = search needs
@@ -44,16 +44,16 @@ shared-slice-read-t16 c = search needs
 
 returns : tie.Need-returns
 unfolding part
-returns c = rw (c .before .before .before .before .before .octets35 .ensures, c .before .before .before .set4-in .ensures, c .before .set6-in .ensures)
+returns c = rw (c .before .before .before .before .before .dhcid-in .ensures, c .before .before .before .set4-in .ensures, c .before .set6-in .ensures)
 
 pub records-in-spec : {M : Type 1} → statement M
 records-in-spec =
     tie.close
     (tie.spec
-    sub-octets35
-    part-octets35-start
-    part-octets35-end
-    octets35-requires
+    sub-dhcid-in
+    part-dhcid-in-start
+    part-dhcid-in-end
+    dhcid-in-requires
     sub-set4-in
     part-set4-in-start
     part-set4-in-end

@@ -14,7 +14,7 @@ returns : tie.Need-returns
 returns c =
     let s = c .before .before .before .before in
     let w = c .join4 .ensures in
-    record { joins = λ n u b o r. joined4 (placeOf n (s .args .e)) o u _ (c .join4 .result) (means4 b (c .before .before .before .if1 .taken) (c .before .addr4 .ensures)) (w .0) (w .1) r }
+    record { joins = λ n u b o r. joined4 (placeOf n (s .args .e)) o u _ (c .join4 .result) (means4 b (c .before .before .before .if1 .taken) (c .before .addr4 .ensures)) (w .listIs) (w .staysFew) r }
 
 addr6-requires : tie.Need-addr6-requires
 addr6-requires c κs = search needs
@@ -26,7 +26,7 @@ returns-2 : tie.Need-returns-2
 returns-2 c =
     let s = c .before .before .before .before in
     let w = c .join6 .ensures in
-    record { joins = λ n u b o r. joined6 (placeOf n (s .args .e)) o u _ (c .join6 .result) (means6 b (c .before .before .before .if1 .left) (c .before .addr6 .ensures)) (w .0) (w .1) r }
+    record { joins = λ n u b o r. joined6 (placeOf n (s .args .e)) o u _ (c .join6 .result) (means6 b (c .before .before .before .if1 .left) (c .before .addr6 .ensures)) (w .listIs) (w .staysFew) r }
 
 pub join-spec : {M : Type 1} → statement M
 join-spec =

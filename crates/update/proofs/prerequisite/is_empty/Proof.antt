@@ -10,23 +10,23 @@ use borrow.Author.Needs.{needs}
 use Rattle.update.proofs.prerequisite.is_empty.Statement.{statement}
 use Rattle.update.proofs.prerequisite.is_empty.Tie as tie
 
-empty4-requires : tie.Need-empty4-requires
-empty4-requires c κs = search needs
+is-empty4-requires : tie.Need-is-empty4-requires
+is-empty4-requires c κs = search needs
 
 returns : tie.Need-returns
 unfolding empty hostOf
 returns c =
     let s = c .before .before .before in
-    λ n. ap (λ (b : Bool). b && eqb (length (list6 (s .args .e .v6))) 0) (sym (not-true _ (c .if1 .taken)) ∙ c .before .empty4 .ensures)
+    λ n. ap (λ (b : Bool). b && eqb (length (list6 (s .args .e .v6))) 0) (sym (not-true _ (c .if1 .taken)) ∙ c .before .is-empty4 .ensures)
 
-empty6-requires : tie.Need-empty6-requires
-empty6-requires c κs = search needs
+is-empty6-requires : tie.Need-is-empty6-requires
+is-empty6-requires c κs = search needs
 
 returns-2 : tie.Need-returns-2
 unfolding empty hostOf
 returns-2 c =
     let s = c .before .before .before .before .before in
-    λ n. c .empty6 .ensures ∙ ap (λ (b : Bool). b && eqb (length (list6 (s .args .e .v6))) 0) (sym (not-false _ (c .before .before .if1 .left)) ∙ c .before .before .before .empty4 .ensures)
+    λ n. c .is-empty6 .ensures ∙ ap (λ (b : Bool). b && eqb (length (list6 (s .args .e .v6))) 0) (sym (not-false _ (c .before .before .if1 .left)) ∙ c .before .before .before .is-empty4 .ensures)
 
 pub is-empty-spec : {M : Type 1} → statement M
-is-empty-spec = tie.close (tie.spec empty4-requires returns empty6-requires returns-2)
+is-empty-spec = tie.close (tie.spec is-empty4-requires returns is-empty6-requires returns-2)
