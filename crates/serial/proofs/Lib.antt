@@ -12,4 +12,6 @@ pub mod OnOctets
 -- Lists of steps: P12, and why removes can't be asked to answer alike.
 pub mod Cases
 pub mod RunningCases
+pub mod OneName
+pub mod P12Runs
 pub mod RemovesDiffer
