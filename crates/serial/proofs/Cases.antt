@@ -8,12 +8,12 @@ use native.Mathlib.Omega.{arith}
 use lib.ListN.{getElem?}
 use Rattle.octets.specs.Compare.{sameOctets}
 use Rattle.dname.specs.Name.{key}
-use Rattle.octets.specs.Count.{Octets, member, distinct, Counts}
+use Rattle.octets.specs.Count.{member, distinct, Counts}
 use Rattle.addresses.specs.Addresses.{Family, four, six, Addresses, nothing, including, excluding}
 use Rattle.octets.proofs.CountLaws.{counts-nothing, counts-list}
-use Rattle.update.specs.Rules.{Host, Zone, there, GoodHost, Form, with, Update, keepOthers, heldBy, empty, requestA, requestB, removeAddress, removeName, withName, withoutName, withAddress, withoutAddress, deleteName}
-use Rattle.job.specs.Jobs.{add, remove, Arguments, End, conflict, gone, ended, Job, fresh, after, afterFirst, afterSecond, step, Sends, hasEnded, sends}
-use Rattle.serial.specs.P12.{pipe, xDhcid, yDhcid, address1, xPipe, xRemoves, yAdds, oneAddress, xHost, heldByX, noNames}
+use Rattle.update.specs.Rules.{Host, Zone, there, GoodHost, Form, with, keepOthers, heldBy, empty, requestA, requestB, removeAddress, removeName, withName, withoutName, withAddress, withoutAddress, deleteName}
+use Rattle.job.specs.Jobs.{add, Arguments, End, conflict, gone, ended, Job, fresh, after, afterFirst, afterSecond, step, Sends, hasEnded, sends}
+use Rattle.serial.specs.P12.{pipe, xDhcid, yDhcid, address1, xPipe, xRemoves, yAdds, oneAddress, xHost, heldByX}
 use Rattle.serial.specs.Demand.{Calls, Promises, noJob, oneMore, start, stepped, verdict, stands, times, nobody, next, Explains, Story, HeldHaveAddress, Serializable}
 use Rattle.update.proofs.ZoneLaws.{some≢none}
 use Rattle.serial.proofs.Demand.{stronger, demand3}

@@ -12,6 +12,10 @@ pub mod OnOctets
 -- Lists of steps: P12, and why removes can't be asked to answer alike.
 pub mod Cases
 pub mod RunningCases
-pub mod OneName
-pub mod P12Runs
 pub mod RemovesDiffer
+-- P12 with every struct written out.
+pub mod OneName
+pub mod P12Zones
+pub mod P12Steps
+pub mod P12Runs
+pub mod P12OnOctets

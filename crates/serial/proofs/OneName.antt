@@ -1,10 +1,9 @@
 -- Zones written out: a struct with one place that may be used and 63 free ones, what it means, and that a program can hold it. Assumes nothing.
-use mathlib.Core.Path.{_≡_, refl, sym, _∙_, ap, fun-ext}
-use mathlib.Core.Bool.{Bool, true, false, cond, _&&_}
+use mathlib.Core.Path.{_≡_, refl, ap, fun-ext}
+use mathlib.Core.Bool.{true, false, cond}
 use mathlib.Core.List.{List, [], _∷_, _++_}
 use mathlib.Core.Option.{none, some}
 use Prim.Native.Nat.{ℕ, zero, suc}
-use native.Mathlib.Omega.{arith}
 use lib.Dec.{ltb}
 use lib.ListN.{length, replicate}
 use Rattle.octets.proofs.BoolLaws.{and-left, and-right}
@@ -14,16 +13,12 @@ use Rattle.addresses.specs.declared.set4.Addr4.{Addr4}
 use Rattle.addresses.specs.declared.set4.Set4.{Set4}
 use Rattle.addresses.specs.declared.set6.Addr6.{Addr6}
 use Rattle.addresses.specs.declared.set6.Set6.{Set6}
-use Rattle.addresses.specs.Addresses.{Family, four, six, Addresses, sound}
-use Rattle.dname.specs.declared.name.Name.{Name}
-use Rattle.dname.specs.Name.{labelsOf, limited, shapeOf, isFull, key}
+use Rattle.addresses.specs.Addresses.{Addresses}
 use Rattle.zone.specs.declared.entry.Entry.{Entry}
 use Rattle.zone.specs.declared.Zone.{Zone}
 use Rattle.zone.specs.Meaning.{used, keyOf, keys, inOrder, allInOrder, formed}
-use Rattle.update.specs.Rules as rules
-use Rattle.update.specs.Rules.{Host}
 use Rattle.update.specs.Meaning.{hostOf, look, zoneOf}
-use Rattle.lentzone.specs.Encode.{SizedEntry, SizedEntries, entryOctets, entriesOctets, octetsOf}
+use Rattle.lentzone.specs.Encode.{SizedEntry, SizedEntries, entryOctets, entriesOctets}
 use Rattle.request.proofs.PlaceLaws.{formed-all}
 use Rattle.serial.specs.P12.{pipe, xHost, heldByX, noNames, areOctets, ZoneValue}
 

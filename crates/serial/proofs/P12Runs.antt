@@ -1,49 +1,37 @@
 -- P12 of the calls that run, with every struct written out. Assumes nothing.
-use mathlib.Core.Path.{_≡_, refl, sym, _∙_, ap, subst, fun-ext}
-use mathlib.Core.Bool.{Bool, true, false, cond, not, _&&_, _||_}
-use mathlib.Core.List.{List, [], _∷_, _++_, map}
+use mathlib.Core.Path.{_≡_, refl, sym, _∙_, ap}
+use mathlib.Core.Bool.{true}
+use mathlib.Core.List.{[], _∷_, _++_}
 use mathlib.Core.Option.{none, some}
 use Prim.Native.Nat.{ℕ}
 use native.Mathlib.Omega.{arith}
 use lib.ListN.{length, replicate}
 use Rattle.octets.specs.Compare.{sameOctets}
-use Rattle.octets.specs.Count.{Octets, member, distinct}
-use Rattle.addresses.specs.declared.set4.Set4.{Set4}
-use Rattle.addresses.specs.Addresses.{Family, four, six, Addresses, nothing, including, excluding, list4, setOf, sound}
-use Rattle.dname.specs.declared.name.Name.{Name}
-use Rattle.dname.specs.Name.{labelsOf, limited, shapeOf, nameOf, isFull, key}
+use Rattle.addresses.specs.Addresses.{four, nothing}
+use Rattle.dname.specs.Name.{labelsOf, limited, shapeOf, isFull}
 use Rattle.zone.specs.declared.entry.Address.{Address}
 use Rattle.zone.specs.declared.entry.Dhcid.{Dhcid}
-use Rattle.zone.specs.declared.entry.Entry.{Entry}
 use Rattle.zone.specs.declared.Zone.{Zone}
-use Rattle.zone.specs.Meaning.{used, keyOf, inOrder, formed}
+use Rattle.zone.specs.Meaning.{formed}
 use Rattle.update.specs.Rules as rules
-use Rattle.update.specs.Rules.{Host, Update, with, withName, withoutName, withAddress, withoutAddress, heldBy, empty, requestA, requestB, removeAddress, deleteName, removeName}
-use Rattle.update.specs.Meaning.{hostOf, zoneOf, listed, familyOf, policyOf, updateOf}
-use Rattle.lentzone.specs.Encode.{octets4, Wide, SizedEntry, entryOctets}
+use Rattle.update.specs.Meaning.{zoneOf, listed, familyOf, policyOf, updateOf}
 use Rattle.job.specs.declared.job.Job.{Job}
-use Rattle.job.specs.declared.fresh.NewJob.{NewJob}
 use Rattle.job.specs.Jobs as jobs
-use Rattle.job.specs.Jobs.{Stage, State, beforeA, beforeB, beforeFirst, beforeSecond, ended, conflict, gone, fresh, after, afterFirst, afterSecond, step}
+use Rattle.job.specs.Jobs.{Stage, State, beforeA, beforeB, beforeFirst, beforeSecond, ended, conflict, gone, fresh, step}
 use Rattle.job.specs.Meaning.{jobOf, atStage, stageNumber, stageCount, freshAdd, freshRemove}
 use Rattle.job.specs.Promise.{newRefusal, newJob}
-use Rattle.step.specs.declared.Stepped.{Stepped}
 use Rattle.step.specs.Promise.{stepRefusal, stepOf, StepPromise}
 use Rattle.step.proofs.AfterLaws.{unrefused}
 use Rattle.serial.specs.Demand.{Story, Serializable}
 use Rattle.serial.specs.Running.{NewCall, newAdd, newRemove, running}
-use Rattle.serial.specs.P12.{pipe, xDhcid, yDhcid, address1, xPipe, xRemoves, yAdds, oneAddress, xHost, heldByX, noNames, P12, areOctets, ZoneValue, JobValue, P12Runs}
+use Rattle.serial.specs.P12.{pipe, xDhcid, yDhcid, address1, xRemoves, yAdds, oneAddress, xHost, heldByX, noNames, P12, areOctets, JobValue, P12Runs}
 use Rattle.serial.proofs.Running.{Ok, kept-promises, taken}
 use Rattle.serial.proofs.RunningCases.{p12-runs, p12-runs-serial}
-use Rattle.serial.proofs.OneName.{octets-append, no4, no6, one4, free, free-sized, free-octets, oneName, value-of, formed-held, zone-held, formed-none, zone-none}
+use Rattle.serial.proofs.P12Zones.{pipeName, ofX, full, bare, clear, full-value, bare-value, clear-value, full-formed, bare-formed, clear-formed, full-zone, bare-zone, clear-zone}
+use Rattle.serial.proofs.P12Steps.{state, x-takes, y-asks, y-conflicts, x-deletes}
+use Rattle.serial.proofs.OneName.{octets-append}
 
--- ---- the structs
-
-unfoldable pub pipeName : Name
-pipeName = record { octets = pipe ++ replicate 249 0; len = 6 }
-
-abbrev ofX : Dhcid
-ofX = record { octets = xDhcid }
+-- ---- the new jobs
 
 abbrev ofY : Dhcid
 ofY = record { octets = yDhcid }
@@ -55,140 +43,24 @@ addressX = record { octets = address1 ++ replicate 12 0 }
 abbrev addressY : Address
 addressY = record { octets = 10 ∷ 0 ∷ 0 ∷ 2 ∷ replicate 12 0 }
 
--- pipe, held by X with these addresses of family 4
-unfoldable pub heldWith : Set4 → Entry
-heldWith s = record { kind = 2; name = pipeName; dhcid = ofX; v4 = s; v6 = no6 }
-
-module _ (s : Set4) where
-  held-used : used (heldWith s) ≡ true
-  unfolding heldWith used
-  held-used = refl
-
-  held-key : keyOf (heldWith s) ≡ pipe
-  unfolding heldWith pipeName pipe key
-  held-key = refl
-
-  held-sized : Wide 4 4 (map octets4 (s .items)) → SizedEntry (heldWith s)
-  unfolding heldWith pipeName pipe xDhcid
-  held-sized w = record { name = refl; dhcid = refl; v4 = w; v6 = (refl, (refl, (refl, (refl, tt)))) }
-
-  held-order : sound (s .count) (list4 s) ≡ true → inOrder (heldWith s) ≡ true
-  unfolding heldWith pipeName pipe inOrder isFull shapeOf limited labelsOf
-  held-order o = rw o (unfold sound distinct in refl)
-
-  held-host : hostOf (heldWith s) ≡ xHost (setOf (list4 s))
-  unfolding heldWith hostOf xHost member
-  held-host = λ i. record { owner = some xDhcid; addresses = fun-ext each i }
-    where
-      each : (f : Family) → hostOf (heldWith s) .addresses f ≡ xHost (setOf (list4 s)) .addresses f
-      each four = refl
-      each six = refl
-
-  held-zone : zoneOf (oneName (heldWith s)) ≡ heldByX (setOf (list4 s))
-  held-zone = zone-held (heldWith s) held-used held-key (setOf (list4 s)) held-host
-
--- The three zones: X's name with its address, without one, and no name.
-abbrev pub full : Zone
-full = oneName (heldWith (one4 address1))
-
-abbrev pub bare : Zone
-bare = oneName (heldWith no4)
-
-abbrev pub clear : Zone
-clear = oneName free
-
-full-value : ZoneValue full
-full-value = value-of (heldWith (one4 address1)) (held-sized (one4 address1) (refl, (refl, (refl, (refl, tt))))) (unfold heldWith pipeName pipe xDhcid areOctets in refl)
-
-bare-value : ZoneValue bare
-bare-value = value-of (heldWith no4) (held-sized no4 (refl, (refl, (refl, (refl, tt))))) (unfold heldWith pipeName pipe xDhcid areOctets in refl)
-
-clear-value : ZoneValue clear
-clear-value = value-of free free-sized free-octets
-
-full-formed : formed full ≡ true
-full-formed = formed-held (heldWith (one4 address1)) (held-used (one4 address1)) (held-key (one4 address1)) (held-order (one4 address1) (unfold sound distinct member in refl))
-
-bare-formed : formed bare ≡ true
-bare-formed = formed-held (heldWith no4) (held-used no4) (held-key no4) (held-order no4 (unfold sound distinct in refl))
-
-clear-formed : formed clear ≡ true
-clear-formed = formed-none free (unfold free used in refl)
-
-full-zone : zoneOf full ≡ heldByX oneAddress
-unfolding oneAddress
-full-zone = held-zone (one4 address1)
-
-bare-zone : zoneOf bare ≡ heldByX nothing
-unfolding member
-bare-zone = held-zone no4
-
-clear-zone : zoneOf clear ≡ noNames
-clear-zone = zone-none free (unfold free used in refl)
-
--- ---- the steps by the rules
-
-abbrev state : rules.Zone → Stage → State
-state z s = record { zone = z; stage = s }
-
-x-takes : step xRemoves (heldByX oneAddress) beforeFirst ≡ state (heldByX nothing) beforeSecond
-unfolding heldByX xHost oneAddress xRemoves pipe xDhcid step removeAddress afterFirst heldBy sameOctets key withoutAddress with excluding withName member
-x-takes = λ i. record { zone = record { size = 1; at = fun-ext at i }; stage = beforeSecond }
-  where
-    none-left : (b : Bool) → (not b && (b || false)) ≡ false
-    none-left true = refl
-    none-left false = refl
-
-    each : (f : Family) → withoutAddress xPipe (xHost oneAddress) .addresses f ≡ xHost nothing .addresses f
-    each four = λ i. record { count = 0; has = fun-ext (λ a. none-left (sameOctets address1 a)) i }
-    each six = refl
-
-    host : withoutAddress xPipe (xHost oneAddress) ≡ xHost nothing
-    host = λ i. record { owner = some xDhcid; addresses = fun-ext each i }
-
-    go : (b : Bool) → cond b (some (withoutAddress xPipe (xHost oneAddress))) (cond b (some (xHost oneAddress)) none) ≡ cond b (some (xHost nothing)) none
-    go true = ap some host
-    go false = refl
-
-    at : (k : Octets) → step xRemoves (heldByX oneAddress) beforeFirst .zone .at k ≡ heldByX nothing .at k
-    at k = go (sameOctets pipe k)
-
-y-asks : step yAdds (heldByX nothing) (beforeA 0) ≡ state (heldByX nothing) (beforeB 1)
-unfolding heldByX yAdds pipe step requestA after sameOctets key
-y-asks = refl
-
-y-conflicts : step yAdds (heldByX nothing) (beforeB 1) ≡ state (heldByX nothing) (ended (conflict 2))
-unfolding heldByX xHost yAdds pipe xDhcid yDhcid step requestB after heldBy sameOctets key
-y-conflicts = refl
-
-x-deletes : step xRemoves (heldByX nothing) beforeSecond ≡ state noNames (ended gone)
-unfolding heldByX xHost xRemoves pipe xDhcid step removeName deleteName afterSecond heldBy sameOctets key withoutName empty
-x-deletes = λ i. record { zone = record { size = 0; at = fun-ext (λ k. go (sameOctets pipe k)) i }; stage = ended gone }
-  where
-    go : (b : Bool) → cond b none (cond b (some (xHost nothing)) none) ≡ none
-    go true = refl
-    go false = refl
-
--- ---- the new jobs
-
-abbrev kx : Job
+abbrev pub kx : Job
 kx = freshRemove pipeName ofX 4 addressX
 
-abbrev ky : Job
+abbrev pub ky : Job
 ky = freshAdd pipeName ofY 4 addressY 0
 
-new-x : NewCall xRemoves kx
+pub new-x : NewCall xRemoves kx
 unfolding xRemoves updateOf familyOf pipeName pipe
 new-x = newRemove pipeName ofX 4 addressX (record { refusal = 0; job = kx }) (unfold newJob newRefusal listed isFull shapeOf limited labelsOf in refl) refl
 
-new-y : NewCall yAdds ky
+pub new-y : NewCall yAdds ky
 unfolding yAdds updateOf familyOf policyOf pipeName pipe
 new-y = newAdd pipeName ofY 4 addressY 0 (record { refusal = 0; job = ky }) (unfold newJob newRefusal listed isFull shapeOf limited labelsOf in refl) refl
 
 -- ---- what the steps return
 
 -- A step of the rules: of a job that means m, from a zone that means x to one that means y, and to a stage. Nothing of it is refused.
-record Turn (z w : Zone) (j : Job) (x y : rules.Zone) (m : jobs.Job) (s : Stage) : Type 0 where
+pub record Turn (z w : Zone) (j : Job) (x y : rules.Zone) (m : jobs.Job) (s : Stage) : Type 0 where
   from : zoneOf z ≡ x
   to : zoneOf w ≡ y
   is : jobOf j ≡ m
@@ -204,7 +76,7 @@ module _ {z w : Zone} {j : Job} {x y : rules.Zone} {m : jobs.Job} {s : Stage} (t
   goes = ap (λ (u : jobs.Job). step (u .arguments) (zoneOf z) (u .stage)) (t .is) ∙ ap (λ (u : rules.Zone). step (m .arguments) u (m .stage)) (t .from) ∙ t .rule
 
   -- so it is what a call may return
-  meets : StepPromise z j (record { refusal = 0; zone = w; job = atStage j s })
+  pub meets : StepPromise z j (record { refusal = 0; zone = w; job = atStage j s })
   meets =
       let e : stepRefusal z j ≡ 0 = unrefused z j (t .good) (t .ok .0) (t .ok .1) in
       record {
@@ -218,7 +90,7 @@ module _ {z w : Zone} {j : Job} {x y : rules.Zone} {m : jobs.Job} {s : Stage} (t
       }
 
   -- and the job that comes of it
-  next-is : jobOf (atStage j s) ≡ record { arguments = m .arguments; stage = s }
+  pub next-is : jobOf (atStage j s) ≡ record { arguments = m .arguments; stage = s }
   unfolding jobOf
   next-is = kept-promises .jobAfter z j (record { refusal = 0; zone = w; job = atStage j s }) meets refl ∙ (λ i. record { arguments = t .is i .arguments; stage = goes i .stage })
 
@@ -243,13 +115,13 @@ unfolding heldByX
 name-goes e = let q : _≡_ {A = ℕ} 0 1 = ap (λ (z : rules.Zone). z .size) e in absurd (omega arith)
 
 -- X's remove at its second request, Y's add at its second.
-abbrev kx₂ : Job
+abbrev pub kx₂ : Job
 kx₂ = atStage kx beforeSecond
 
-abbrev ky₂ : Job
+abbrev pub ky₂ : Job
 ky₂ = atStage ky (beforeB 1)
 
-x-first : Turn full bare kx (heldByX oneAddress) (heldByX nothing) (record { arguments = xRemoves; stage = beforeFirst }) beforeSecond
+pub x-first : Turn full bare kx (heldByX oneAddress) (heldByX nothing) (record { arguments = xRemoves; stage = beforeFirst }) beforeSecond
 x-first = record {
   from = full-zone;
   to = bare-zone;
@@ -261,7 +133,7 @@ x-first = record {
   same = address-goes;
 }
 
-y-first : Turn bare bare ky (heldByX nothing) (heldByX nothing) (record { arguments = yAdds; stage = beforeA 0 }) (beforeB 1)
+pub y-first : Turn bare bare ky (heldByX nothing) (heldByX nothing) (record { arguments = yAdds; stage = beforeA 0 }) (beforeB 1)
 y-first = record {
   from = bare-zone;
   to = bare-zone;
@@ -273,7 +145,7 @@ y-first = record {
   same = λ e. refl;
 }
 
-y-second : Turn bare bare ky₂ (heldByX nothing) (heldByX nothing) (record { arguments = yAdds; stage = beforeB 1 }) (ended (conflict 2))
+pub y-second : Turn bare bare ky₂ (heldByX nothing) (heldByX nothing) (record { arguments = yAdds; stage = beforeB 1 }) (ended (conflict 2))
 y-second = record {
   from = bare-zone;
   to = bare-zone;
@@ -285,7 +157,7 @@ y-second = record {
   same = λ e. refl;
 }
 
-x-second : Turn bare clear kx₂ (heldByX nothing) noNames (record { arguments = xRemoves; stage = beforeSecond }) (ended gone)
+pub x-second : Turn bare clear kx₂ (heldByX nothing) noNames (record { arguments = xRemoves; stage = beforeSecond }) (ended gone)
 x-second = record {
   from = bare-zone;
   to = clear-zone;
@@ -331,11 +203,11 @@ module _ (d : Dhcid) (a : Address) (dn : length (d .octets) ≡ 35) (an : length
     octets = octets-append (stage ∷ count ∷ []) (4 ∷ 0 ∷ 6 ∷ (pipeName .octets ++ (d .octets ++ a .octets))) h (octets-append (4 ∷ 0 ∷ 6 ∷ pipeName .octets) (d .octets ++ a .octets) (unfold pipe areOctets in refl) l);
   }
 
-x-values : JobValue kx × JobValue kx₂ × JobValue (atStage kx₂ (ended gone))
+pub x-values : JobValue kx × JobValue kx₂ × JobValue (atStage kx₂ (ended gone))
 unfolding freshRemove atStage stageNumber stageCount xDhcid areOctets
 x-values = (job-value ofX addressX refl refl refl 11 0 refl, job-value ofX addressX refl refl refl 12 0 refl, job-value ofX addressX refl refl refl 14 0 refl)
 
-y-values : JobValue ky × JobValue ky₂ × JobValue (atStage ky₂ (ended (conflict 2)))
+pub y-values : JobValue ky × JobValue ky₂ × JobValue (atStage ky₂ (ended (conflict 2)))
 unfolding freshAdd atStage stageNumber stageCount yDhcid areOctets
 y-values = (job-value ofY addressY refl refl refl 1 0 refl, job-value ofY addressY refl refl refl 2 1 refl, job-value ofY addressY refl refl refl 4 2 refl)
 

@@ -116,7 +116,7 @@ unfolding p12-octets
 p12-octets-serial = p12-story-serial onOctets octets-promises (onOctets .Formed) Ok octets-taken
 
 -- A mixture: X's steps on lent octets, Y's by value, what they return stored.
-pub p12-mixed : (z z₁ z₂ z₃ z₄ : List ℕ) (kx ky : Job) (x₁ x₂ : StepAnswer) (y₁ y₂ : Stepped)
+unfoldable pub p12-mixed : (z z₁ z₂ z₃ z₄ : List ℕ) (kx ky : Job) (x₁ x₂ : StepAnswer) (y₁ y₂ : Stepped)
     → length z ≡ 23936 → formed (zoneIn z) ≡ true → zoneOf (zoneIn z) ≡ heldByX oneAddress → NewCall xRemoves kx → NewCall yAdds ky
     → StepPromiseIn z kx z₁ x₁
     → StepPromise (zoneIn z₁) ky y₁ → Holds z₂ (y₁ .zone)
