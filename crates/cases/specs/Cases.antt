@@ -2,7 +2,7 @@
 use mathlib.Core.Path.{_≡_}
 use mathlib.Core.Bool.{Bool, true, false}
 use mathlib.Core.List.{List, [], _∷_, _++_}
-use mathlib.Core.Option.{Option, none}
+use mathlib.Core.Option.{none}
 use Prim.Native.Nat.{ℕ}
 use lib.ListN.{replicate}
 use Rattle.clock.specs.Clock.{moment}
@@ -11,9 +11,8 @@ use Rattle.fqdn.specs.Answer.{answerOf, octetsOf, resultOf}
 use Rattle.octets.specs.Number.{numberAt}
 use Rattle.lease.specs.declared.Lease.{Lease}
 use Rattle.leasequery.specs.Answer.{answer as queryAnswer, told, written}
-use Rattle.dname.specs.Name.{key}
 use Rattle.addresses.specs.Addresses.{four}
-use Rattle.update.specs.Rules.{Host, Zone, Update, keepOthers, requestA}
+use Rattle.update.specs.Rules.{Zone, Update, keepOthers, requestA}
 use Rattle.job.specs.Jobs.{add, remove, Arguments, conflict, gone, Stage, beforeFirst, ended, fresh, step}
 use Rattle.serverlist.specs.Servers.{packed}
 use Rattle.serverlist.specs.declared.Server.{Server}
@@ -29,8 +28,9 @@ pub data Case : Type 0 where
   area : ℕ → List Server → ℕ → List ℕ → List Server → Case
   -- a lease query at a moment over a table, in a buffer of 648 octets: the reply's kind and its ciaddr
   query : ℕ → List Lease → List ℕ → ℕ → ℕ → Case
-  -- the steps of two fresh jobs X and Y on a zone, in the order of a list (true: X): where X stands then, where Y does, and what stands at X's name
-  jobs : Zone → Arguments → Arguments → List Bool → Stage → Stage → Option Host → Case
+  -- the steps of two fresh jobs X and Y on a zone, in the order of a list (true: X): where X stands then, where Y does, and the zone that there is,
+  -- which is its number of names and what stands at every one
+  jobs : Zone → Arguments → Arguments → List Bool → Stage → Stage → Zone → Case
 
 -- A zone and where two jobs on it stand; a step of each by the rules.
 pub record Two : Type 0 where
@@ -53,8 +53,8 @@ Holds (option value suffix octets number) =
 Holds (area last before now octets after) = serverList (packed (moment last) before) (moment now) octets ≡ answer 0 (packed (moment now) after)
 Holds (query now table packet kind address) =
     (told (queryAnswer (moment now) table 0 packet 648) .kind ≡ kind) × (numberAt 4 (written (queryAnswer (moment now) table 0 packet 648)) 12 ≡ address)
-Holds (jobs zone x y turns xStage yStage host) =
-    (steppedFresh zone x y turns .x ≡ xStage) × (steppedFresh zone x y turns .y ≡ yStage) × (steppedFresh zone x y turns .zone .at (key (x .update .name)) ≡ host)
+Holds (jobs zone x y turns xStage yStage after) =
+    (steppedFresh zone x y turns .x ≡ xStage) × (steppedFresh zone x y turns .y ≡ yStage) × (steppedFresh zone x y turns .zone ≡ after)
 
 unfoldable pub All : List Case → Type 0
 All [] = Unit
@@ -112,13 +112,16 @@ update dhcid octet =
       address = 10 ∷ 0 ∷ 0 ∷ octet ∷ [];
     }
 
-abbrev held : Zone
-held = requestA (update 1 7) (record { size = 0; at = λ k. none }) .zone
+abbrev pub noNames : Zone
+noNames = record { size = 0; at = λ k. none }
 
-abbrev xRemoves : Arguments
+abbrev pub held : Zone
+held = requestA (update 1 7) noNames .zone
+
+abbrev pub xRemoves : Arguments
 xRemoves = record { kind = remove; update = update 1 7; policy = keepOthers }
 
-abbrev yAdds : Arguments
+abbrev pub yAdds : Arguments
 yAdds = record { kind = add; update = update 2 8; policy = keepOthers }
 
 unfoldable pub cases : List Case
@@ -152,9 +155,9 @@ cases =
     ∷ query 100 (lease 7 ∷ lease 9 ∷ []) packet 13 7
     ∷ query 100 (lease 7 ∷ lease 9 ∷ []) packetByHardware 13 7
     ∷ query 200 (lease 7 ∷ lease 9 ∷ []) packetByHardware 12 0
-    -- P11: the name is held by X, Y adds: two requests, conflict
-    ∷ jobs held xRemoves yAdds (false ∷ false ∷ []) beforeFirst (ended (conflict 2)) (held .at (key (update 1 7 .name)))
-    -- P12: X removes its only address, Y adds in between: Y in conflict and the name gone, as with Y first and X after
-    ∷ jobs held xRemoves yAdds (true ∷ false ∷ false ∷ true ∷ []) (ended gone) (ended (conflict 2)) none
-    ∷ jobs held xRemoves yAdds (false ∷ false ∷ true ∷ true ∷ []) (ended gone) (ended (conflict 2)) none
+    -- P11: the name is held by X, Y adds: two requests, conflict, and the zone stays
+    ∷ jobs held xRemoves yAdds (false ∷ false ∷ []) beforeFirst (ended (conflict 2)) held
+    -- P12: X removes its only address, Y adds in between: Y in conflict and the name gone; Y first and X after come to the same zone
+    ∷ jobs held xRemoves yAdds (true ∷ false ∷ false ∷ true ∷ []) (ended gone) (ended (conflict 2)) noNames
+    ∷ jobs held xRemoves yAdds (false ∷ false ∷ true ∷ true ∷ []) (ended gone) (ended (conflict 2)) noNames
     ∷ []

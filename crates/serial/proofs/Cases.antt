@@ -8,11 +8,12 @@ use native.Mathlib.Omega.{arith}
 use lib.ListN.{getElem?}
 use Rattle.octets.specs.Compare.{sameOctets}
 use Rattle.dname.specs.Name.{key}
-use Rattle.octets.specs.Count.{Octets, member, distinct, Counts}
+use Rattle.octets.specs.Count.{member, distinct, Counts}
 use Rattle.addresses.specs.Addresses.{Family, four, six, Addresses, nothing, including, excluding}
 use Rattle.octets.proofs.CountLaws.{counts-nothing, counts-list}
-use Rattle.update.specs.Rules.{Host, Zone, there, GoodHost, Form, with, Update, keepOthers, heldBy, empty, requestA, requestB, removeAddress, removeName, withName, withoutName, withAddress, withoutAddress, deleteName}
-use Rattle.job.specs.Jobs.{add, remove, Arguments, End, conflict, gone, ended, Job, fresh, after, afterFirst, afterSecond, step, Sends, hasEnded, sends}
+use Rattle.update.specs.Rules.{Host, Zone, there, GoodHost, Form, with, keepOthers, heldBy, empty, requestA, requestB, removeAddress, removeName, withName, withoutName, withAddress, withoutAddress, deleteName}
+use Rattle.job.specs.Jobs.{add, Arguments, End, conflict, gone, ended, Job, fresh, after, afterFirst, afterSecond, step, Sends, hasEnded, sends}
+use Rattle.serial.specs.P12.{pipe, xDhcid, yDhcid, address1, xPipe, xRemoves, yAdds, oneAddress, xHost, heldByX}
 use Rattle.serial.specs.Demand.{Calls, Promises, noJob, oneMore, start, stepped, verdict, stands, times, nobody, next, Explains, Story, HeldHaveAddress, Serializable}
 use Rattle.update.proofs.ZoneLaws.{some≢none}
 use Rattle.serial.proofs.Demand.{stronger, demand3}
@@ -55,33 +56,8 @@ by-rule = record {
 
 -- ---- X holds pipe, with one address
 
-unfoldable pub pipe : Octets
-pipe = 4 ∷ 112 ∷ 105 ∷ 112 ∷ 101 ∷ 0 ∷ []
-
-abbrev pub address1 : Octets
-address1 = 10 ∷ 0 ∷ 0 ∷ 1 ∷ []
-
-abbrev pub xPipe : Update
-xPipe = record { name = pipe; dhcid = 1 ∷ []; family = four; address = address1 }
-
-unfoldable pub xRemoves : Arguments
-xRemoves = record { kind = remove; update = xPipe; policy = keepOthers }
-
 unfoldable pub xAdds : Arguments
 xAdds = record { kind = add; update = xPipe; policy = keepOthers }
-
-unfoldable pub yAdds : Arguments
-yAdds = record { kind = add; update = record { name = pipe; dhcid = 2 ∷ []; family = four; address = 10 ∷ 0 ∷ 0 ∷ 2 ∷ [] }; policy = keepOthers }
-
-unfoldable pub oneAddress : Addresses
-oneAddress = record { count = 1; has = λ a. member a (address1 ∷ []) }
-
-unfoldable pub xHost : Addresses → Host
-xHost s = record { owner = some (1 ∷ []); addresses = λ f. elim f [ four ↦ s | six ↦ nothing ] }
-
--- the zone with these addresses of X at pipe, and no other name
-unfoldable pub heldByX : Addresses → Zone
-heldByX s = record { size = 1; at = λ k. cond (sameOctets pipe k) (some (xHost s)) none }
 
 module _ (s : Addresses) (few : s .count ≤ 4) (counted : Counts (s .count) (s .has)) where
   good-x : GoodHost (xHost s)
@@ -156,11 +132,11 @@ abbrev z₀ : Zone
 z₀ = heldByX oneAddress
 
 pub p12-ends : (r₄ z₀ xRemoves yAdds .job .stage ≡ ended gone) × (r₃ z₀ xRemoves yAdds .job .stage ≡ ended (conflict 2))
-unfolding heldByX xHost oneAddress xRemoves yAdds pipe step fresh requestA requestB removeAddress deleteName removeName after afterFirst afterSecond heldBy sameOctets key withAddress withoutAddress with including excluding withName withoutName empty member
+unfolding heldByX xHost oneAddress xRemoves yAdds pipe xDhcid yDhcid step fresh requestA requestB removeAddress deleteName removeName after afterFirst afterSecond heldBy sameOctets key withAddress withoutAddress with including excluding withName withoutName empty member
 p12-ends = (refl, refl)
 
 p12-gone : r₄ z₀ xRemoves yAdds .zone .at (key pipe) ≡ none
-unfolding heldByX xHost oneAddress xRemoves yAdds pipe step fresh requestA requestB removeAddress deleteName removeName after afterFirst heldBy sameOctets key withAddress withoutAddress with including excluding withName withoutName empty member
+unfolding heldByX xHost oneAddress xRemoves yAdds pipe xDhcid yDhcid step fresh requestA requestB removeAddress deleteName removeName after afterFirst heldBy sameOctets key withAddress withoutAddress with including excluding withName withoutName empty member
 p12-gone = refl
 
 pub p12 : Story byRule
@@ -190,17 +166,17 @@ p12-order = record { each = each; inTurn = next 1 yAdds (conflict 2) (conflict 2
     each (suc (suc i)) e p = absurd (some≢none (sym p))
 
     y-conflict : Sends yAdds z₀ (fresh yAdds) z₀ (conflict 2)
-    y-conflict = unfold heldByX xHost oneAddress yAdds pipe step fresh requestA requestB after heldBy sameOctets key in sends (sends hasEnded)
+    y-conflict = unfold heldByX xHost oneAddress yAdds pipe xDhcid yDhcid step fresh requestA requestB after heldBy sameOctets key in sends (sends hasEnded)
 
     x-gone : Sends xRemoves z₀ (fresh xRemoves) (r₄ z₀ xRemoves yAdds .zone) gone
-    x-gone = unfold heldByX xHost oneAddress xRemoves yAdds pipe step fresh requestA requestB removeAddress deleteName removeName after afterFirst afterSecond heldBy sameOctets key withAddress withoutAddress with including excluding withName withoutName empty member in sends (sends hasEnded)
+    x-gone = unfold heldByX xHost oneAddress xRemoves yAdds pipe xDhcid yDhcid step fresh requestA requestB removeAddress deleteName removeName after afterFirst afterSecond heldBy sameOctets key withAddress withoutAddress with including excluding withName withoutName empty member in sends (sends hasEnded)
 
 -- The same from a zone that demand 3 does not ask about: X holds the name, with no address.
 abbrev bare₀ : Zone
 bare₀ = heldByX nothing
 
 bare-ends : (r₄ bare₀ xRemoves yAdds .job .stage ≡ ended gone) × (r₃ bare₀ xRemoves yAdds .job .stage ≡ ended (conflict 2))
-unfolding heldByX xHost xRemoves yAdds pipe step fresh requestA requestB removeAddress deleteName removeName after afterFirst afterSecond heldBy sameOctets key withAddress withoutAddress with including excluding withName withoutName empty member
+unfolding heldByX xHost xRemoves yAdds pipe xDhcid yDhcid step fresh requestA requestB removeAddress deleteName removeName after afterFirst afterSecond heldBy sameOctets key withAddress withoutAddress with including excluding withName withoutName empty member
 bare-ends = (refl, refl)
 
 pub from-bare : Story byRule

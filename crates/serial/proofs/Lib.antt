@@ -13,3 +13,9 @@ pub mod OnOctets
 pub mod Cases
 pub mod RunningCases
 pub mod RemovesDiffer
+-- P12 with every struct written out.
+pub mod OneName
+pub mod P12Zones
+pub mod P12Steps
+pub mod P12Runs
+pub mod P12OnOctets

@@ -109,8 +109,8 @@ module _ (J : ℕ → Arguments) (z₀ : Zone) (g₀ : Form z₀) where
     pub name : key (J x .update .name) ≡ k
     pub owner : h .owner ≡ some (J x .update .dhcid)
 
-  -- What the order's zone y has at the key k, beside the list's zone z, and the remove jobs that are put off for it: the sameOctets, and none; or a
-  -- host of the sameOctets owner, which the first of those put off empties, where z has a held name without address.
+  -- What the order's zone y has at the key k, beside the list's zone z, and the remove jobs that are put off for it: the same, and none; or a
+  -- host of the same owner, which the first of those put off empties, where z has a held name without address.
   pub data At (z : Zone) (f : ℕ → Stage) (y : Zone) (k : Octets) (off : List ℕ) : Type 0 where
     shown : off ≡ [] → y .at k ≡ z .at k → ((h : Host) → z .at k ≡ some h → bare h ≡ true → (x : ℕ) → Waits f k h x → ⊥) → At z f y k off
     emptied : (h g : Host) (p : ℕ) (ps : List ℕ) → off ≡ p ∷ ps → z .at k ≡ some h → bare h ≡ true → y .at k ≡ some g → g .owner ≡ h .owner

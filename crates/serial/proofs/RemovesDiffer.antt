@@ -17,14 +17,15 @@ use Rattle.job.specs.Jobs.{Arguments, End, done, conflict, gone, kept, Stage, e
 use Rattle.serial.specs.Demand.{going, times, Story}
 use Rattle.update.proofs.ZoneLaws.{some≢none}
 use Rattle.serial.proofs.Demand.{js}
-use Rattle.serial.proofs.Cases.{byRule, pipe, xRemoves, xAdds, oneAddress, xHost, heldByX, form-one, r₃, r₄, between}
+use Rattle.serial.specs.P12.{pipe, xDhcid, xRemoves, oneAddress, xHost, heldByX}
+use Rattle.serial.proofs.Cases.{byRule, xAdds, form-one, r₃, r₄, between}
 
 abbrev z₀ : Zone
 z₀ = heldByX oneAddress
 
 -- X removes its only address, adds it again in between, and the name is kept.
 the-ends : (r₄ z₀ xRemoves xAdds .job .stage ≡ ended kept) × (r₃ z₀ xRemoves xAdds .job .stage ≡ ended (done 2))
-unfolding heldByX xHost oneAddress xRemoves xAdds pipe step fresh requestA requestB removeAddress deleteName removeName writeB fits left after afterFirst afterSecond heldBy sameOctets key withAddress withoutAddress with including excluding withName withoutName empty member
+unfolding heldByX xHost xDhcid oneAddress xRemoves xAdds pipe step fresh requestA requestB removeAddress deleteName removeName writeB fits left after afterFirst afterSecond heldBy sameOctets key withAddress withoutAddress with including excluding withName withoutName empty member
 the-ends = (refl, refl)
 
 pub the-list : Story byRule
@@ -85,10 +86,10 @@ remove-first y d m = two xRemoves z₀ y d gone Stage.beforeFirst fr refl go en 
     fr = unfold fresh xRemoves in refl
 
     go : going (step xRemoves z₀ Stage.beforeFirst .stage) ≡ true
-    go = unfold heldByX xHost oneAddress xRemoves pipe step removeAddress afterFirst heldBy sameOctets key in refl
+    go = unfold heldByX xHost xDhcid oneAddress xRemoves pipe step removeAddress afterFirst heldBy sameOctets key in refl
 
     en : step xRemoves (step xRemoves z₀ Stage.beforeFirst .zone) (step xRemoves z₀ Stage.beforeFirst .stage) .stage ≡ ended gone
-    en = unfold heldByX xHost oneAddress xRemoves pipe step removeAddress deleteName removeName afterFirst afterSecond heldBy sameOctets key withAddress withoutAddress with including excluding withName withoutName empty member in refl
+    en = unfold heldByX xHost xDhcid oneAddress xRemoves pipe step removeAddress deleteName removeName afterFirst afterSecond heldBy sameOctets key withAddress withoutAddress with including excluding withName withoutName empty member in refl
 
 remove-second : (y : Zone) (d : End) → Sends xRemoves after-add (fresh xRemoves) y d → gone ≡ d
 remove-second y d m = two xRemoves after-add y d gone Stage.beforeFirst fr refl go en m .1
@@ -97,10 +98,10 @@ remove-second y d m = two xRemoves after-add y d gone Stage.beforeFirst fr refl 
     fr = unfold fresh xRemoves in refl
 
     go : going (step xRemoves after-add Stage.beforeFirst .stage) ≡ true
-    go = unfold heldByX xHost oneAddress xRemoves xAdds pipe step requestA requestB writeB fits left after removeAddress afterFirst heldBy sameOctets key withAddress withoutAddress with including excluding withName withoutName member in refl
+    go = unfold heldByX xHost xDhcid oneAddress xRemoves xAdds pipe step requestA requestB writeB fits left after removeAddress afterFirst heldBy sameOctets key withAddress withoutAddress with including excluding withName withoutName member in refl
 
     en : step xRemoves (step xRemoves after-add Stage.beforeFirst .zone) (step xRemoves after-add Stage.beforeFirst .stage) .stage ≡ ended gone
-    en = unfold heldByX xHost oneAddress xRemoves xAdds pipe step requestA requestB writeB fits left after removeAddress deleteName removeName afterFirst afterSecond heldBy sameOctets key withAddress withoutAddress with including excluding withName withoutName empty member in refl
+    en = unfold heldByX xHost xDhcid oneAddress xRemoves xAdds pipe step requestA requestB writeB fits left after removeAddress deleteName removeName afterFirst afterSecond heldBy sameOctets key withAddress withoutAddress with including excluding withName withoutName empty member in refl
 
 add-first : (y : Zone) (d : End) → Sends xAdds z₀ (fresh xAdds) y d → after-add ≡ y
 add-first y d m = two xAdds z₀ y d (done 2) (Stage.beforeA 0) fr refl go en m .0
@@ -109,10 +110,10 @@ add-first y d m = two xAdds z₀ y d (done 2) (Stage.beforeA 0) fr refl go en m 
     fr = unfold fresh xAdds in refl
 
     go : going (step xAdds z₀ (Stage.beforeA 0) .stage) ≡ true
-    go = unfold heldByX xHost oneAddress xAdds pipe step requestA after sameOctets key in refl
+    go = unfold heldByX xHost xDhcid oneAddress xAdds pipe step requestA after sameOctets key in refl
 
     en : step xAdds (step xAdds z₀ (Stage.beforeA 0) .zone) (step xAdds z₀ (Stage.beforeA 0) .stage) .stage ≡ ended (done 2)
-    en = unfold heldByX xHost oneAddress xAdds pipe step requestA requestB writeB fits left after heldBy sameOctets key withAddress withoutAddress with including excluding withName withoutName member in refl
+    en = unfold heldByX xHost xDhcid oneAddress xAdds pipe step requestA requestB writeB fits left after heldBy sameOctets key withAddress withoutAddress with including excluding withName withoutName member in refl
 
 abbrev both : List Arguments
 both = xRemoves ∷ xAdds ∷ []

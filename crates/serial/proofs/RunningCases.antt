@@ -17,6 +17,7 @@ use Rattle.step.specs.declared.Stepped.{Stepped}
 use Rattle.step.specs.declared.lent.StepAnswer.{StepAnswer}
 use Rattle.step.specs.Promise.{StepPromise}
 use Rattle.step.specs.Lent.{StepPromiseIn}
+use Rattle.serial.specs.P12.{xRemoves, yAdds, oneAddress, heldByX, P12}
 use Rattle.serial.specs.Demand.{Calls, Promises, noJob, oneMore, start, stepped, HeldHaveAddress, Story, Serializable}
 use Rattle.serial.specs.Running.{NewCall, running}
 use Rattle.lentzone.specs.Encode.{Holds}
@@ -25,25 +26,7 @@ use Rattle.serial.proofs.Demand.{demand3}
 use Rattle.serial.proofs.InTime.{Taken}
 use Rattle.serial.proofs.Running.{Ok, kept-promises, taken}
 use Rattle.serial.proofs.OnOctets.{octets-promises, octets-taken}
-use Rattle.serial.proofs.Cases.{stepOf, heldByX, oneAddress, xRemoves, yAdds, newJob, r₁, r₂, r₃, r₄, p12-ends, p12-held}
-
--- X holds pipe with one address. X's remove takes its first step, Y's add both of its steps, and X's remove its second.
-pub record P12 (C : Calls) : Type 0 where
-  pub z : C .Z
-  pub kx : C .J
-  pub ky : C .J
-  pub s₁ : C .R
-  pub s₂ : C .R
-  pub s₃ : C .R
-  pub s₄ : C .R
-  pub formed : C .Formed z
-  pub held : C .zoneOf z ≡ heldByX oneAddress
-  pub newX : C .New xRemoves kx
-  pub newY : C .New yAdds ky
-  pub x-first : C .Step z kx s₁
-  pub y-first : C .Step (C .zone s₁) ky s₂
-  pub y-second : C .Step (C .zone s₂) (C .job s₂) s₃
-  pub x-second : C .Step (C .zone s₃) (C .job s₁) s₄
+use Rattle.serial.proofs.Cases.{stepOf, newJob, r₁, r₂, r₃, r₄, p12-ends, p12-held}
 
 -- ---- of any calls that keep the promises
 
@@ -133,7 +116,7 @@ unfolding p12-octets
 p12-octets-serial = p12-story-serial onOctets octets-promises (onOctets .Formed) Ok octets-taken
 
 -- A mixture: X's steps on lent octets, Y's by value, what they return stored.
-pub p12-mixed : (z z₁ z₂ z₃ z₄ : List ℕ) (kx ky : Job) (x₁ x₂ : StepAnswer) (y₁ y₂ : Stepped)
+unfoldable pub p12-mixed : (z z₁ z₂ z₃ z₄ : List ℕ) (kx ky : Job) (x₁ x₂ : StepAnswer) (y₁ y₂ : Stepped)
     → length z ≡ 23936 → formed (zoneIn z) ≡ true → zoneOf (zoneIn z) ≡ heldByX oneAddress → NewCall xRemoves kx → NewCall yAdds ky
     → StepPromiseIn z kx z₁ x₁
     → StepPromise (zoneIn z₁) ky y₁ → Holds z₂ (y₁ .zone)

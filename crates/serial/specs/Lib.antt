@@ -4,3 +4,5 @@ pub mod Demand
 pub mod Running
 -- The calls on a zone that is kept as octets.
 pub mod OnOctets
+-- P12, and that these calls can make it.
+pub mod P12

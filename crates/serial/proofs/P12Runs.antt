@@ -1,0 +1,232 @@
+-- P12 of the calls that run, with every struct written out. Assumes nothing.
+use mathlib.Core.Path.{_≡_, refl, sym, _∙_, ap}
+use mathlib.Core.Bool.{true}
+use mathlib.Core.List.{[], _∷_, _++_}
+use mathlib.Core.Option.{none, some}
+use Prim.Native.Nat.{ℕ}
+use native.Mathlib.Omega.{arith}
+use lib.ListN.{length, replicate}
+use Rattle.octets.specs.Compare.{sameOctets}
+use Rattle.addresses.specs.Addresses.{four, nothing}
+use Rattle.dname.specs.Name.{labelsOf, limited, shapeOf, isFull}
+use Rattle.zone.specs.declared.entry.Address.{Address}
+use Rattle.zone.specs.declared.entry.Dhcid.{Dhcid}
+use Rattle.zone.specs.declared.Zone.{Zone}
+use Rattle.zone.specs.Meaning.{formed}
+use Rattle.update.specs.Rules as rules
+use Rattle.update.specs.Meaning.{zoneOf, listed, familyOf, policyOf, updateOf}
+use Rattle.job.specs.declared.job.Job.{Job}
+use Rattle.job.specs.Jobs as jobs
+use Rattle.job.specs.Jobs.{Stage, State, beforeA, beforeB, beforeFirst, beforeSecond, ended, conflict, gone, fresh, step}
+use Rattle.job.specs.Meaning.{jobOf, atStage, stageNumber, stageCount, freshAdd, freshRemove}
+use Rattle.job.specs.Promise.{newRefusal, newJob}
+use Rattle.step.specs.Promise.{stepRefusal, stepOf, StepPromise}
+use Rattle.step.proofs.AfterLaws.{unrefused}
+use Rattle.serial.specs.Demand.{Story, Serializable}
+use Rattle.serial.specs.Running.{NewCall, newAdd, newRemove, running}
+use Rattle.serial.specs.P12.{pipe, xDhcid, yDhcid, address1, xRemoves, yAdds, oneAddress, xHost, heldByX, noNames, P12, areOctets, JobValue, P12Runs}
+use Rattle.serial.proofs.Running.{Ok, kept-promises, taken}
+use Rattle.serial.proofs.RunningCases.{p12-runs, p12-runs-serial}
+use Rattle.serial.proofs.P12Zones.{pipeName, ofX, full, bare, clear, full-value, bare-value, clear-value, full-formed, bare-formed, clear-formed, full-zone, bare-zone, clear-zone}
+use Rattle.serial.proofs.P12Steps.{state, x-takes, y-asks, y-conflicts, x-deletes}
+use Rattle.serial.proofs.OneName.{octets-append}
+
+-- ---- the new jobs
+
+abbrev ofY : Dhcid
+ofY = record { octets = yDhcid }
+
+-- of family 4 the first 4 octets
+abbrev addressX : Address
+addressX = record { octets = address1 ++ replicate 12 0 }
+
+abbrev addressY : Address
+addressY = record { octets = 10 ∷ 0 ∷ 0 ∷ 2 ∷ replicate 12 0 }
+
+abbrev pub kx : Job
+kx = freshRemove pipeName ofX 4 addressX
+
+abbrev pub ky : Job
+ky = freshAdd pipeName ofY 4 addressY 0
+
+pub new-x : NewCall xRemoves kx
+unfolding xRemoves updateOf familyOf pipeName pipe
+new-x = newRemove pipeName ofX 4 addressX (record { refusal = 0; job = kx }) (unfold newJob newRefusal listed isFull shapeOf limited labelsOf in refl) refl
+
+pub new-y : NewCall yAdds ky
+unfolding yAdds updateOf familyOf policyOf pipeName pipe
+new-y = newAdd pipeName ofY 4 addressY 0 (record { refusal = 0; job = ky }) (unfold newJob newRefusal listed isFull shapeOf limited labelsOf in refl) refl
+
+-- ---- what the steps return
+
+-- A step of the rules: of a job that means m, from a zone that means x to one that means y, and to a stage. Nothing of it is refused.
+pub record Turn (z w : Zone) (j : Job) (x y : rules.Zone) (m : jobs.Job) (s : Stage) : Type 0 where
+  from : zoneOf z ≡ x
+  to : zoneOf w ≡ y
+  is : jobOf j ≡ m
+  rule : step (m .arguments) x (m .stage) ≡ state y s
+  good : formed z ≡ true
+  goodAgain : formed w ≡ true
+  ok : Ok j
+  same : y ≡ x → w ≡ z
+
+module _ {z w : Zone} {j : Job} {x y : rules.Zone} {m : jobs.Job} {s : Stage} (t : Turn z w j x y m s) where
+  goes : stepOf z j ≡ state y s
+  unfolding jobOf
+  goes = ap (λ (u : jobs.Job). step (u .arguments) (zoneOf z) (u .stage)) (t .is) ∙ ap (λ (u : rules.Zone). step (m .arguments) u (m .stage)) (t .from) ∙ t .rule
+
+  -- so it is what a call may return
+  pub meets : StepPromise z j (record { refusal = 0; zone = w; job = atStage j s })
+  meets =
+      let e : stepRefusal z j ≡ 0 = unrefused z j (t .good) (t .ok .0) (t .ok .1) in
+      record {
+        refusalIs = sym e;
+        zoneKept = λ n. absurd (n e);
+        unchanged = λ q. t .same (sym (ap (λ (u : State). u .zone) goes) ∙ q ∙ t .from);
+        jobKept = λ n. absurd (n e);
+        zoneIs = λ q. t .to ∙ ap (λ (u : State). u .zone) (sym goes);
+        formedAgain = λ q. t .goodAgain;
+        jobIs = λ q. ap (λ (u : State). atStage j (u .stage)) (sym goes);
+      }
+
+  -- and the job that comes of it
+  pub next-is : jobOf (atStage j s) ≡ record { arguments = m .arguments; stage = s }
+  unfolding jobOf
+  next-is = kept-promises .jobAfter z j (record { refusal = 0; zone = w; job = atStage j s }) meets refl ∙ (λ i. record { arguments = t .is i .arguments; stage = goes i .stage })
+
+  next-ok : Ok (atStage j s)
+  next-ok = taken .job-ok z j (record { refusal = 0; zone = w; job = atStage j s }) meets refl
+
+x-is : jobOf kx ≡ record { arguments = xRemoves; stage = beforeFirst }
+x-is = kept-promises .new xRemoves kx new-x ∙ (unfold fresh xRemoves in refl)
+
+y-is : jobOf ky ≡ record { arguments = yAdds; stage = beforeA 0 }
+y-is = kept-promises .new yAdds ky new-y ∙ (unfold fresh yAdds in refl)
+
+address-goes : heldByX nothing ≡ heldByX oneAddress → bare ≡ full
+unfolding heldByX sameOctets pipe xHost oneAddress
+address-goes e = let q : _≡_ {A = ℕ} 0 1 = ap count e in absurd (omega arith)
+  where
+    count : rules.Zone → ℕ
+    count z = elim (z .at pipe) [ none ↦ 2 | some h ↦ h .addresses four .count ]
+
+name-goes : noNames ≡ heldByX nothing → clear ≡ bare
+unfolding heldByX
+name-goes e = let q : _≡_ {A = ℕ} 0 1 = ap (λ (z : rules.Zone). z .size) e in absurd (omega arith)
+
+-- X's remove at its second request, Y's add at its second.
+abbrev pub kx₂ : Job
+kx₂ = atStage kx beforeSecond
+
+abbrev pub ky₂ : Job
+ky₂ = atStage ky (beforeB 1)
+
+pub x-first : Turn full bare kx (heldByX oneAddress) (heldByX nothing) (record { arguments = xRemoves; stage = beforeFirst }) beforeSecond
+x-first = record {
+  from = full-zone;
+  to = bare-zone;
+  is = x-is;
+  rule = x-takes;
+  good = full-formed;
+  goodAgain = bare-formed;
+  ok = taken .new-ok xRemoves kx new-x;
+  same = address-goes;
+}
+
+pub y-first : Turn bare bare ky (heldByX nothing) (heldByX nothing) (record { arguments = yAdds; stage = beforeA 0 }) (beforeB 1)
+y-first = record {
+  from = bare-zone;
+  to = bare-zone;
+  is = y-is;
+  rule = y-asks;
+  good = bare-formed;
+  goodAgain = bare-formed;
+  ok = taken .new-ok yAdds ky new-y;
+  same = λ e. refl;
+}
+
+pub y-second : Turn bare bare ky₂ (heldByX nothing) (heldByX nothing) (record { arguments = yAdds; stage = beforeB 1 }) (ended (conflict 2))
+y-second = record {
+  from = bare-zone;
+  to = bare-zone;
+  is = next-is y-first;
+  rule = y-conflicts;
+  good = bare-formed;
+  goodAgain = bare-formed;
+  ok = next-ok y-first;
+  same = λ e. refl;
+}
+
+pub x-second : Turn bare clear kx₂ (heldByX nothing) noNames (record { arguments = xRemoves; stage = beforeSecond }) (ended gone)
+x-second = record {
+  from = bare-zone;
+  to = clear-zone;
+  is = next-is x-first;
+  rule = x-deletes;
+  good = bare-formed;
+  goodAgain = clear-formed;
+  ok = next-ok x-first;
+  same = name-goes;
+}
+
+-- ---- P12
+
+-- What the calls can return, in the order of the steps.
+pub p12-of-calls : P12 running
+p12-of-calls = record {
+  z = full;
+  kx = kx;
+  ky = ky;
+  s₁ = record { refusal = 0; zone = bare; job = kx₂ };
+  s₂ = record { refusal = 0; zone = bare; job = ky₂ };
+  s₃ = record { refusal = 0; zone = bare; job = atStage ky₂ (ended (conflict 2)) };
+  s₄ = record { refusal = 0; zone = clear; job = atStage kx₂ (ended gone) };
+  formed = full-formed;
+  held = full-zone;
+  newX = new-x;
+  newY = new-y;
+  x-first = meets x-first;
+  y-first = meets y-first;
+  y-second = meets y-second;
+  x-second = meets x-second;
+}
+
+-- A job for pipe is a value whatever its stage and its count, as far as they are octets.
+module _ (d : Dhcid) (a : Address) (dn : length (d .octets) ≡ 35) (an : length (a .octets) ≡ 16) (l : areOctets (d .octets ++ a .octets) ≡ true) where
+  job-value : (stage count : ℕ) → areOctets (stage ∷ count ∷ []) ≡ true
+      → JobValue (record { stage = stage; count = count; family = 4; policy = 0; name = pipeName; dhcid = d; address = a })
+  unfolding pipeName
+  job-value stage count h = record {
+    name = unfold pipe in refl;
+    dhcid = dn;
+    address = an;
+    octets = octets-append (stage ∷ count ∷ []) (4 ∷ 0 ∷ 6 ∷ (pipeName .octets ++ (d .octets ++ a .octets))) h (octets-append (4 ∷ 0 ∷ 6 ∷ pipeName .octets) (d .octets ++ a .octets) (unfold pipe areOctets in refl) l);
+  }
+
+pub x-values : JobValue kx × JobValue kx₂ × JobValue (atStage kx₂ (ended gone))
+unfolding freshRemove atStage stageNumber stageCount xDhcid areOctets
+x-values = (job-value ofX addressX refl refl refl 11 0 refl, job-value ofX addressX refl refl refl 12 0 refl, job-value ofX addressX refl refl refl 14 0 refl)
+
+pub y-values : JobValue ky × JobValue ky₂ × JobValue (atStage ky₂ (ended (conflict 2)))
+unfolding freshAdd atStage stageNumber stageCount yDhcid areOctets
+y-values = (job-value ofY addressY refl refl refl 1 0 refl, job-value ofY addressY refl refl refl 2 1 refl, job-value ofY addressY refl refl refl 4 2 refl)
+
+pub p12-happens : P12Runs
+unfolding p12-of-calls
+p12-happens = record {
+  steps = p12-of-calls;
+  zones = (full-value, bare-value, bare-value, bare-value, clear-value);
+  xJobs = x-values;
+  yJobs = y-values;
+  xEnds = ap (λ (u : jobs.Job). u .stage) (next-is x-second);
+  yEnds = ap (λ (u : jobs.Job). u .stage) (next-is y-second);
+  lastZone = clear-zone;
+}
+
+-- Demand 3 speaks of it, and holds of it.
+pub p12-of-calls-story : Story running
+p12-of-calls-story = p12-runs p12-of-calls
+
+pub p12-of-calls-serial : Serializable running p12-of-calls-story
+unfolding p12-of-calls-story
+p12-of-calls-serial = p12-runs-serial p12-of-calls

@@ -1,0 +1,121 @@
+-- P12 as a list of steps, and the claim that the calls can make it. Document 01, "Proof cases".
+use mathlib.Core.Path.{_≡_}
+use mathlib.Core.Bool.{Bool, true, cond, _&&_}
+use mathlib.Core.List.{List, [], _∷_, _++_}
+use mathlib.Core.Option.{none, some}
+use Prim.Native.Nat.{ℕ}
+use lib.Dec.{ltb}
+use lib.ListN.{length, replicate}
+use Rattle.octets.specs.Compare.{sameOctets}
+use Rattle.octets.specs.Count.{Octets, member}
+use Rattle.addresses.specs.Addresses.{four, six, Addresses, nothing}
+use Rattle.zone.specs.declared.Zone.{Zone}
+use Rattle.update.specs.Rules as rules
+use Rattle.update.specs.Rules.{Host, Update, keepOthers}
+use Rattle.lentzone.specs.Encode.{SizedEntries, octetsOf}
+use Rattle.job.specs.declared.job.Job.{Job}
+use Rattle.job.specs.Jobs.{add, remove, Arguments, conflict, gone, ended}
+use Rattle.serial.specs.Demand.{Calls}
+use Rattle.serial.specs.Running.{running}
+use Rattle.serial.specs.OnOctets.{onOctets}
+
+-- ---- what is asked
+
+unfoldable pub pipe : Octets
+pipe = 4 ∷ 112 ∷ 105 ∷ 112 ∷ 101 ∷ 0 ∷ []
+
+-- A DHCID has 35 octets.
+unfoldable pub xDhcid : Octets
+xDhcid = replicate 35 1
+
+unfoldable pub yDhcid : Octets
+yDhcid = replicate 35 2
+
+abbrev pub address1 : Octets
+address1 = 10 ∷ 0 ∷ 0 ∷ 1 ∷ []
+
+abbrev pub xPipe : Update
+xPipe = record { name = pipe; dhcid = xDhcid; family = four; address = address1 }
+
+unfoldable pub xRemoves : Arguments
+xRemoves = record { kind = remove; update = xPipe; policy = keepOthers }
+
+unfoldable pub yAdds : Arguments
+yAdds = record { kind = add; update = record { name = pipe; dhcid = yDhcid; family = four; address = 10 ∷ 0 ∷ 0 ∷ 2 ∷ [] }; policy = keepOthers }
+
+unfoldable pub oneAddress : Addresses
+oneAddress = record { count = 1; has = λ a. member a (address1 ∷ []) }
+
+unfoldable pub xHost : Addresses → Host
+xHost s = record { owner = some xDhcid; addresses = λ f. elim f [ four ↦ s | six ↦ nothing ] }
+
+-- The zone with these addresses of X at pipe, and no other name; and the zone without names.
+unfoldable pub heldByX : Addresses → rules.Zone
+heldByX s = record { size = 1; at = λ k. cond (sameOctets pipe k) (some (xHost s)) none }
+
+abbrev pub noNames : rules.Zone
+noNames = record { size = 0; at = λ k. none }
+
+-- ---- the steps
+
+-- X holds pipe with one address. X's remove takes its first step, Y's add both of its steps, and X's remove its second.
+pub record P12 (C : Calls) : Type 0 where
+  pub z : C .Z
+  pub kx : C .J
+  pub ky : C .J
+  pub s₁ : C .R
+  pub s₂ : C .R
+  pub s₃ : C .R
+  pub s₄ : C .R
+  pub formed : C .Formed z
+  pub held : C .zoneOf z ≡ heldByX oneAddress
+  pub newX : C .New xRemoves kx
+  pub newY : C .New yAdds ky
+  pub x-first : C .Step z kx s₁
+  pub y-first : C .Step (C .zone s₁) ky s₂
+  pub y-second : C .Step (C .zone s₂) (C .job s₂) s₃
+  pub x-second : C .Step (C .zone s₃) (C .job s₁) s₄
+
+-- ---- values that a program can hold
+
+-- Each number is an octet's.
+unfoldable pub areOctets : List ℕ → Bool
+areOctets [] = true
+areOctets (x ∷ l) = ltb x 256 && areOctets l
+
+-- A zone's struct: 64 places, arrays of the lengths that the struct gives them, and octets in all its fields.
+pub record ZoneValue (z : Zone) : Type 0 where
+  pub sizes : SizedEntries 64 (z .entries)
+  pub octets : areOctets (octetsOf z) ≡ true
+
+-- The octets of a lent zone.
+pub record LentValue (z : List ℕ) : Type 0 where
+  pub size : length z ≡ 23936
+  pub octets : areOctets z ≡ true
+
+-- A job's struct.
+pub record JobValue (j : Job) : Type 0 where
+  pub name : length (j .name .octets) ≡ 255
+  pub dhcid : length (j .dhcid .octets) ≡ 35
+  pub address : length (j .address .octets) ≡ 16
+  pub octets : areOctets (j .stage ∷ j .count ∷ j .family ∷ j .policy ∷ j .name .len ∷ (j .name .octets ++ (j .dhcid .octets ++ j .address .octets))) ≡ true
+
+-- ---- the claim
+
+-- There are such steps, with zones and jobs that a program can hold. X's remove ends gone, Y's add in conflict after two requests, and the
+-- zone at the end has no name.
+pub record Happens (C : Calls) (ZoneOk : C .Z → Type 0) (JobOk : C .J → Type 0) : Type 0 where
+  pub steps : P12 C
+  pub zones : ZoneOk (steps .z) × ZoneOk (C .zone (steps .s₁)) × ZoneOk (C .zone (steps .s₂)) × ZoneOk (C .zone (steps .s₃)) × ZoneOk (C .zone (steps .s₄))
+  pub xJobs : JobOk (steps .kx) × JobOk (C .job (steps .s₁)) × JobOk (C .job (steps .s₄))
+  pub yJobs : JobOk (steps .ky) × JobOk (C .job (steps .s₂)) × JobOk (C .job (steps .s₃))
+  pub xEnds : C .jobOf (C .job (steps .s₄)) .stage ≡ ended gone
+  pub yEnds : C .jobOf (C .job (steps .s₃)) .stage ≡ ended (conflict 2)
+  pub lastZone : C .zoneOf (C .zone (steps .s₄)) ≡ noNames
+
+-- Of the calls that run, and of those on a zone that is kept as octets.
+abbrev pub P12Runs : Type 0
+P12Runs = Happens running ZoneValue JobValue
+
+abbrev pub P12OnOctets : Type 0
+P12OnOctets = Happens onOctets LentValue JobValue
