@@ -6,7 +6,7 @@ use mathlib.Core.Option.{some}
 use lib.ListN.{replicate}
 use Rattle.octets.specs.Count.{member, distinct}
 use Rattle.addresses.specs.declared.set4.Set4.{Set4}
-use Rattle.addresses.specs.Addresses.{Family, four, six, nothing, list4, setOf, sound}
+use Rattle.addresses.specs.Addresses.{Family, four, six, nothing, octets4, list4, setOf, sound}
 use Rattle.dname.specs.declared.name.Name.{Name}
 use Rattle.dname.specs.Name.{labelsOf, limited, shapeOf, isFull, key}
 use Rattle.zone.specs.declared.entry.Dhcid.{Dhcid}
@@ -14,7 +14,7 @@ use Rattle.zone.specs.declared.entry.Entry.{Entry}
 use Rattle.zone.specs.declared.Zone.{Zone}
 use Rattle.zone.specs.Meaning.{used, keyOf, inOrder, formed}
 use Rattle.update.specs.Meaning.{hostOf, zoneOf}
-use Rattle.lentzone.specs.Encode.{octets4, Wide, SizedEntry}
+use Rattle.lentzone.specs.Encode.{Wide, SizedEntry}
 use Rattle.serial.specs.P12.{pipe, xDhcid, address1, oneAddress, xHost, heldByX, noNames, areOctets, ZoneValue}
 use Rattle.serial.proofs.OneName.{no4, no6, one4, free, free-sized, free-octets, oneName, value-of, formed-held, zone-held, formed-none, zone-none}
 
