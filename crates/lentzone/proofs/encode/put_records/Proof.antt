@@ -6,30 +6,19 @@ use borrow.Author.Needs.{needs}
 use Rattle.lentzone.proofs.encode.put_records.Statement.{statement}
 use Rattle.lentzone.proofs.encode.put_records.Tie as tie
 
-put-octets-requires : tie.Need-put-octets-requires
-put-octets-requires c κs = search needs
-
-put-set4-requires : tie.Need-put-set4-requires
-put-set4-requires c κs = search needs
-
-put-set6-requires : tie.Need-put-set6-requires
-put-set6-requires c κs = search needs
-
-same-length : tie.Need-same-length
-same-length c = search needs
-
 returns : tie.Need-returns
 returns c =
-    let r = c .before .before .before .before .before .before .before .before .before .before .before .before .before .before .before .before .before .before .args .t1 in
-    let four = c .before .before .before .before .before .before .before .put-set4 .ensures in
-    let six = c .before .before .put-set6 .ensures in
+    let six = c .before .before in
+    let four = six .before .before .before .before .before in
+    let first = four .before .before .before .before .before in
+    let r = first .before .before .before .before .before .before .args .t1 in
     let d : length (r .dhcid .octets) ≡ 35 = search needs in
     record {
-      sized = record { dhcid = d; v4 = four .sized; v6 = six .sized };
-      wrote = wrote-as (records-joined r) (then (then (written (c .before .before .before .before .before .before .before .before .before .before .before .before .put-octets .ensures)) (four .wrote)) (six .wrote));
+      sized = record { dhcid = d; v4 = four .put-set4 .ensures .sized; v6 = six .put-set6 .ensures .sized };
+      wrote = wrote-as (records-joined r) (then (then (written (first .put-octets .ensures)) (four .put-set4 .ensures .wrote)) (six .put-set6 .ensures .wrote));
     }
 
 pub put-records-spec : {M : Type 1} → statement M
 put-records-spec =
     tie.close
-    (tie.spec put-octets-requires put-set4-requires put-set6-requires same-length returns)
+    (tie.spec (λ c κs. search needs) (λ c κs. search needs) (λ c κs. search needs) (λ c. search needs) returns)
