@@ -156,7 +156,7 @@ unfolding p12 between byRule
 p12-serial = demand3 byRule by-rule p12 p12-held
 
 -- As Y first and X after: that order explains it.
-p12-order : Explains (xRemoves ∷ yAdds ∷ []) (gone ∷ conflict 2 ∷ []) z₀ (r₄ z₀ xRemoves yAdds .zone) (1 ∷ 0 ∷ [])
+pub p12-order : Explains (xRemoves ∷ yAdds ∷ []) (gone ∷ conflict 2 ∷ []) z₀ (r₄ z₀ xRemoves yAdds .zone) (1 ∷ 0 ∷ [])
 unfolding times
 p12-order = record { each = each; inTurn = next 1 yAdds (conflict 2) (conflict 2) refl refl y-conflict refl (next 0 xRemoves gone gone refl refl x-gone refl nobody) }
   where

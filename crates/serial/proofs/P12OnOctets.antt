@@ -1,8 +1,5 @@
 -- P12 on a zone that is kept as octets, all of them written out: X's steps on lent octets, Y's by value. Assumes nothing.
 use mathlib.Core.Path.{_≡_, refl, sym, _∙_, ap, subst}
-use mathlib.Core.Bool.{true}
-use mathlib.Core.List.{List}
-use Prim.Native.Nat.{ℕ}
 use lib.ListN.{drop}
 use lib.Seq.{drop-at}
 use Rattle.zone.specs.declared.entry.Entry.{Entry}
@@ -10,19 +7,17 @@ use Rattle.zone.specs.declared.Zone.{Zone}
 use Rattle.zone.specs.Meaning.{formed}
 use Rattle.update.specs.Meaning.{zoneOf}
 use Rattle.lentzone.specs.Decode.{zoneIn}
-use Rattle.lentzone.specs.Encode.{SizedEntry, SizedEntries, Holds, entryOctets, entriesOctets, octetsOf}
+use Rattle.lentzone.specs.Encode.{SizedEntry, Holds, entryOctets, entriesOctets, octetsOf}
 use Rattle.lentzone.proofs.EncodeLaws.{entry-length, every-zone-is-held}
 use Rattle.job.specs.declared.job.Job.{Job}
 use Rattle.job.specs.Jobs as jobs
 use Rattle.job.specs.Jobs.{ended, conflict, gone}
 use Rattle.job.specs.Meaning.{atStage}
-use Rattle.step.specs.declared.Stepped.{Stepped}
 use Rattle.step.specs.Promise.{stepOf, StepPromise}
 use Rattle.step.specs.Lent.{StepPromiseIn}
-use Rattle.serial.specs.Demand.{Story, Serializable}
 use Rattle.serial.specs.OnOctets.{onOctets}
 use Rattle.serial.specs.P12.{P12, ZoneValue, LentValue, P12OnOctets}
-use Rattle.serial.proofs.RunningCases.{p12-octets, p12-octets-serial, p12-mixed}
+use Rattle.serial.proofs.RunningCases.{p12-octets, p12-mixed}
 use Rattle.serial.proofs.OneName.{others, oneName}
 use Rattle.serial.proofs.P12Zones.{full, bare, clear, full-value, bare-value, clear-value, full-formed, full-zone, clear-zone}
 use Rattle.serial.proofs.P12Runs.{kx, ky, kx₂, ky₂, new-x, new-y, meets, next-is, x-first, y-first, y-second, x-second, x-values, y-values}
@@ -88,12 +83,5 @@ p12-happens-on-octets = record {
   xEnds = ap (λ (u : jobs.Job). u .stage) (next-is x-second);
   yEnds = ap (λ (u : jobs.Job). u .stage) (next-is y-second);
   lastZone = ap zoneOf (holds clear clear-value .zoneIs) ∙ clear-zone;
+  explained = p12-octets p12-of-octets;
 }
-
--- Demand 3 speaks of it, and holds of it.
-pub p12-of-octets-story : Story onOctets
-p12-of-octets-story = p12-octets p12-of-octets
-
-pub p12-of-octets-serial : Serializable onOctets p12-of-octets-story
-unfolding p12-of-octets-story
-p12-of-octets-serial = p12-octets-serial p12-of-octets

@@ -22,11 +22,10 @@ use Rattle.job.specs.Meaning.{jobOf, atStage, stageNumber, stageCount, freshAdd
 use Rattle.job.specs.Promise.{newRefusal, newJob}
 use Rattle.step.specs.Promise.{stepRefusal, stepOf, StepPromise}
 use Rattle.step.proofs.AfterLaws.{unrefused}
-use Rattle.serial.specs.Demand.{Story, Serializable}
 use Rattle.serial.specs.Running.{NewCall, newAdd, newRemove, running}
 use Rattle.serial.specs.P12.{pipe, xDhcid, yDhcid, address1, xRemoves, yAdds, oneAddress, xHost, heldByX, noNames, P12, areOctets, JobValue, P12Runs}
 use Rattle.serial.proofs.Running.{Ok, kept-promises, taken}
-use Rattle.serial.proofs.RunningCases.{p12-runs, p12-runs-serial}
+use Rattle.serial.proofs.RunningCases.{p12-runs}
 use Rattle.serial.proofs.P12Zones.{pipeName, ofX, full, bare, clear, full-value, bare-value, clear-value, full-formed, bare-formed, clear-formed, full-zone, bare-zone, clear-zone}
 use Rattle.serial.proofs.P12Steps.{state, x-takes, y-asks, y-conflicts, x-deletes}
 use Rattle.serial.proofs.OneName.{octets-append}
@@ -221,12 +220,5 @@ p12-happens = record {
   xEnds = ap (λ (u : jobs.Job). u .stage) (next-is x-second);
   yEnds = ap (λ (u : jobs.Job). u .stage) (next-is y-second);
   lastZone = clear-zone;
+  explained = p12-runs p12-of-calls;
 }
-
--- Demand 3 speaks of it, and holds of it.
-pub p12-of-calls-story : Story running
-p12-of-calls-story = p12-runs p12-of-calls
-
-pub p12-of-calls-serial : Serializable running p12-of-calls-story
-unfolding p12-of-calls-story
-p12-of-calls-serial = p12-runs-serial p12-of-calls

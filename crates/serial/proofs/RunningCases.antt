@@ -17,8 +17,8 @@ use Rattle.step.specs.declared.Stepped.{Stepped}
 use Rattle.step.specs.declared.lent.StepAnswer.{StepAnswer}
 use Rattle.step.specs.Promise.{StepPromise}
 use Rattle.step.specs.Lent.{StepPromiseIn}
-use Rattle.serial.specs.P12.{xRemoves, yAdds, oneAddress, heldByX, P12}
-use Rattle.serial.specs.Demand.{Calls, Promises, noJob, oneMore, start, stepped, HeldHaveAddress, Story, Serializable}
+use Rattle.serial.specs.P12.{xRemoves, yAdds, oneAddress, heldByX, P12, Explained}
+use Rattle.serial.specs.Demand.{Calls, Promises, noJob, oneMore, start, stepped, Explains, HeldHaveAddress, Story}
 use Rattle.serial.specs.Running.{NewCall, running}
 use Rattle.lentzone.specs.Encode.{Holds}
 use Rattle.serial.specs.OnOctets.{lent, byValue, onOctets}
@@ -26,7 +26,7 @@ use Rattle.serial.proofs.Demand.{demand3}
 use Rattle.serial.proofs.InTime.{Taken}
 use Rattle.serial.proofs.Running.{Ok, kept-promises, taken}
 use Rattle.serial.proofs.OnOctets.{octets-promises, octets-taken}
-use Rattle.serial.proofs.Cases.{stepOf, newJob, r₁, r₂, r₃, r₄, p12-ends, p12-held}
+use Rattle.serial.proofs.Cases.{stepOf, newJob, r₁, r₂, r₃, r₄, p12-ends, p12-held, p12-order}
 
 -- ---- of any calls that keep the promises
 
@@ -79,7 +79,7 @@ module _ (C : Calls) (P : Promises C) where
     y-ended = ap (λ (m : jobs.Job). m .stage) (t₃ .jobIs) ∙ p12-ends .1
 
     -- the list of steps: X's remove ends gone, Y's add in conflict after two requests
-    pub p12-story : Story C
+    p12-story : Story C
     p12-story = record {
       arguments = xRemoves ∷ yAdds ∷ [];
       firstZone = c .z;
@@ -93,27 +93,31 @@ module _ (C : Calls) (P : Promises C) where
       allEnded = rw (x-ended, y-ended) refl;
     }
 
-    pub p12-story-serial : Serializable C p12-story
+    -- the order by the rules, between the zones that the calls had
+    y-then-x : Explains (xRemoves ∷ yAdds ∷ []) (gone ∷ conflict 2 ∷ []) (C .zoneOf (c .z)) (C .zoneOf (C .zone (c .s₄))) (1 ∷ 0 ∷ [])
+    y-then-x =
+        subst (λ (u : rules.Zone). Explains (xRemoves ∷ yAdds ∷ []) (gone ∷ conflict 2 ∷ []) u (C .zoneOf (C .zone (c .s₄))) (1 ∷ 0 ∷ [])) (sym (c .held))
+        (subst (λ (u : rules.Zone). Explains (xRemoves ∷ yAdds ∷ []) (gone ∷ conflict 2 ∷ []) x₀ u (1 ∷ 0 ∷ [])) (sym (t₄ .zoneIs)) p12-order)
+
+    pub p12-explained : Explained C c
     unfolding p12-story
-    p12-story-serial = demand3 C P p12-story (subst HeldHaveAddress (sym (c .held)) p12-held)
+    p12-explained = record {
+      story = p12-story;
+      zones = (refl, refl);
+      jobs = (refl, refl);
+      serial = demand3 C P p12-story (subst HeldHaveAddress (sym (c .held)) p12-held);
+      yThenX = y-then-x;
+    }
 
 -- ---- of the calls that run
 
-pub p12-runs : P12 running → Story running
-p12-runs = p12-story running kept-promises (running .Formed) Ok taken
-
-pub p12-runs-serial : (c : P12 running) → Serializable running (p12-runs c)
-unfolding p12-runs
-p12-runs-serial = p12-story-serial running kept-promises (running .Formed) Ok taken
+pub p12-runs : (c : P12 running) → Explained running c
+p12-runs = p12-explained running kept-promises (running .Formed) Ok taken
 
 -- ---- of those on octets, lent or by value
 
-pub p12-octets : P12 onOctets → Story onOctets
-p12-octets = p12-story onOctets octets-promises (onOctets .Formed) Ok octets-taken
-
-pub p12-octets-serial : (c : P12 onOctets) → Serializable onOctets (p12-octets c)
-unfolding p12-octets
-p12-octets-serial = p12-story-serial onOctets octets-promises (onOctets .Formed) Ok octets-taken
+pub p12-octets : (c : P12 onOctets) → Explained onOctets c
+p12-octets = p12-explained onOctets octets-promises (onOctets .Formed) Ok octets-taken
 
 -- A mixture: X's steps on lent octets, Y's by value, what they return stored.
 unfoldable pub p12-mixed : (z z₁ z₂ z₃ z₄ : List ℕ) (kx ky : Job) (x₁ x₂ : StepAnswer) (y₁ y₂ : Stepped)

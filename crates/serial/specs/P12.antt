@@ -15,7 +15,7 @@ use Rattle.update.specs.Rules.{Host, Update, keepOthers}
 use Rattle.lentzone.specs.Encode.{SizedEntries, octetsOf}
 use Rattle.job.specs.declared.job.Job.{Job}
 use Rattle.job.specs.Jobs.{add, remove, Arguments, conflict, gone, ended}
-use Rattle.serial.specs.Demand.{Calls}
+use Rattle.serial.specs.Demand.{Calls, Explains, Story, Serializable}
 use Rattle.serial.specs.Running.{running}
 use Rattle.serial.specs.OnOctets.{onOctets}
 
@@ -102,6 +102,14 @@ pub record JobValue (j : Job) : Type 0 where
 
 -- ---- the claim
 
+-- Such steps are a list that demand 3 speaks of and holds of, and Y first and X after is an order that explains it.
+pub record Explained (C : Calls) (c : P12 C) : Type 0 where
+  pub story : Story C
+  pub zones : (story .firstZone ≡ c .z) × (story .lastZone ≡ C .zone (c .s₄))
+  pub jobs : (story .firstJobs ≡ c .kx ∷ c .ky ∷ []) × (story .lastJobs ≡ C .job (c .s₄) ∷ C .job (c .s₃) ∷ [])
+  pub serial : Serializable C story
+  pub yThenX : Explains (xRemoves ∷ yAdds ∷ []) (gone ∷ conflict 2 ∷ []) (C .zoneOf (c .z)) (C .zoneOf (C .zone (c .s₄))) (1 ∷ 0 ∷ [])
+
 -- There are such steps, with zones and jobs that a program can hold. X's remove ends gone, Y's add in conflict after two requests, and the
 -- zone at the end has no name.
 pub record Happens (C : Calls) (ZoneOk : C .Z → Type 0) (JobOk : C .J → Type 0) : Type 0 where
@@ -112,6 +120,7 @@ pub record Happens (C : Calls) (ZoneOk : C .Z → Type 0) (JobOk : C .J → Type
   pub xEnds : C .jobOf (C .job (steps .s₄)) .stage ≡ ended gone
   pub yEnds : C .jobOf (C .job (steps .s₃)) .stage ≡ ended (conflict 2)
   pub lastZone : C .zoneOf (C .zone (steps .s₄)) ≡ noNames
+  pub explained : Explained C steps
 
 -- Of the calls that run, and of those on a zone that is kept as octets.
 abbrev pub P12Runs : Type 0
