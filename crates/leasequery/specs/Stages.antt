@@ -53,6 +53,10 @@ noCandidates clock n key =
       ranks = replicate 4 noRank;
     }
 
+-- the start for what is asked
+abbrev pub startFor : Moment → Asked → Candidates
+startFor clock a = noCandidates clock (refusalIn a) (keyFor a)
+
 -- the first refusal that applies, or the key, from whether the table keeps its form
 unfoldable pub askedAt : Moment → Bool → List ℕ → ℕ → Asked
 askedAt clock ok query room =

@@ -15,7 +15,7 @@ ghost use lib.Dec.{leb};
 ghost use Prim.Native.Nat.{_-_, min};
 ghost use Rattle.leasepacket.specs.Packet.{part};
 ghost use Rattle.leasepacket.specs.Reading.{asked};
-ghost use Rattle.leasequery.specs.Stages.{padded, keyFor, idKey, refusalIn, noCandidates, askedAt};
+ghost use Rattle.leasequery.specs.Stages.{padded, keyFor, idKey, refusalIn, noCandidates, startFor, askedAt};
 
 // The most records that a table has.
 const LONGEST_TABLE: usize = 256;
@@ -156,7 +156,7 @@ fn first_refusal(clock: Moment, ok: bool, p: &[u8], room: usize) -> Query
 
 // What is looked for.
 pub fn ask(clock: Moment, table: Form, count: usize, p: &[u8], room: usize) -> Candidates
-    ensures { λ r. ⌜ r ≡ noCandidates clock (refusalIn (askedAt clock (leb count 256 && table .ok) (now (p .entry)) room)) (keyFor (askedAt clock (leb count 256 && table .ok) (now (p .entry)) room)) ⌝ }
+    ensures { λ r. ⌜ r ≡ startFor clock (askedAt clock (leb count 256 && table .ok) (now (p .entry)) room) ⌝ }
 {
     let ok = does_fit(table, count);
     let q = first_refusal(clock, ok, p, room);

@@ -12,6 +12,7 @@ ghost use mathlib.Core.Path.{_≡_};
 ghost use mathlib.Core.Bool.{_&&_};
 ghost use lib.ListN.{length};
 ghost use Rattle.addresses.specs.Addresses.{list4, list6, sound};
+ghost use Rattle.zone.specs.Meaning.{soundSets};
 ghost use Rattle.zone.specs.Survey.{recordsOf};
 ghost use Rattle.lentzone.specs.Decode.{addr4, addr6, set4In, set6In, entryIn};
 
@@ -112,7 +113,7 @@ fn is_sound6_in(s: &[u8]) -> bool
 // Whether the address sets of a place have their form.
 pub(crate) fn are_sets_sound(e: &[u8]) -> bool
     requires { ⌜ length (now e) ≡ 374 ⌝ }
-    ensures { λ r. ⌜ r ≡ (sound (entryIn (now (e .entry)) .v4 .count) (list4 (entryIn (now (e .entry)) .v4)) && sound (entryIn (now (e .entry)) .v6 .count) (list6 (entryIn (now (e .entry)) .v6))) ⌝ }
+    ensures { λ r. ⌜ r ≡ soundSets (entryIn (now (e .entry)) .v4) (entryIn (now (e .entry)) .v6) ⌝ }
 {
     if !is_sound4_in(&e[292..309]) {
         return false;

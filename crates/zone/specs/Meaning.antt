@@ -6,6 +6,8 @@ use lib.ListN.{length, take}
 use Rattle.dname.specs.Name.{nameOf, isFull, key}
 use Rattle.octets.specs.Count.{Octets, distinct}
 use Rattle.addresses.specs.Addresses.{list4, list6, sound}
+use Rattle.addresses.specs.declared.set4.Set4.{Set4}
+use Rattle.addresses.specs.declared.set6.Set6.{Set6}
 use Rattle.zone.specs.declared.entry.Entry.{Entry}
 use Rattle.zone.specs.declared.Zone.{Zone}
 
@@ -23,9 +25,13 @@ keys (e ∷ es) = cond (used e) (keyOf e ∷ keys es) (keys es)
 
 -- ---- the form: what breaks it is refusal 17
 
--- A used place in order: a static (1) or held (2) name that is full, with at most four addresses a family, no two equal.
+-- Sets of both families with at most four addresses each, no two equal.
+abbrev pub soundSets : Set4 → Set6 → Bool
+soundSets v4 v6 = sound (v4 .count) (list4 v4) && sound (v6 .count) (list6 v6)
+
+-- A used place in order: a static (1) or held (2) name that is full, with sound address sets.
 unfoldable pub inOrder : Entry → Bool
-inOrder e = leb (e .kind) 2 && (isFull (nameOf (e .name)) && (sound (e .v4 .count) (list4 (e .v4)) && sound (e .v6 .count) (list6 (e .v6))))
+inOrder e = leb (e .kind) 2 && (isFull (nameOf (e .name)) && soundSets (e .v4) (e .v6))
 
 -- A free place is in order whatever it holds.
 unfoldable pub allInOrder : List Entry → Bool

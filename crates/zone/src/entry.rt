@@ -8,7 +8,7 @@ use dname::name::Name;
 ghost use mathlib.Core.Path.{_≡_};
 ghost use mathlib.Core.Bool.{_&&_};
 ghost use lib.Dec.{leb};
-ghost use Rattle.addresses.specs.Addresses.{list4, list6, sound};
+ghost use Rattle.zone.specs.Meaning.{soundSets};
 ghost use Rattle.dname.specs.Name.{nameOf};
 ghost use Rattle.zone.specs.Survey.{named};
 
@@ -44,7 +44,7 @@ pub struct Records {
 
 // Whether the address sets of a place have their form.
 pub(crate) fn are_sets_sound(v4: Set4, v6: Set6) -> bool
-    ensures { λ r. ⌜ r ≡ (sound (v4 .count) (list4 v4) && sound (v6 .count) (list6 v6)) ⌝ }
+    ensures { λ r. ⌜ r ≡ soundSets v4 v6 ⌝ }
 {
     if !set4::is_sound4(v4) {
         return false;

@@ -122,9 +122,7 @@ fn read(line: &str) -> Line {
         ["job", _, job_kind, name, dhcid, family, hex, policy] => {
             Line::Job(job([job_kind, name, dhcid, family, hex, policy]))
         }
-        ["ask", _, word, said] => {
-            Line::Ask(number(), kind(word), replies(kind(word), said, None))
-        }
+        ["ask", _, word, said] => Line::Ask(number(), kind(word), replies(kind(word), said, None)),
         ["ask", _, word, said, code] => {
             Line::Ask(number(), kind(word), replies(kind(word), said, Some(code)))
         }
@@ -174,7 +172,10 @@ fn walk<J>(
 
 /// Sends every request in its order; each answer must be BIND's.
 pub fn replay(mut send: impl FnMut(&mut Zone, &Request) -> Result<Reply, u8>) -> Agreed {
-    let ask = |line: &str, zone: &mut Zone, job: &mut Request, (kind, replies): (Kind, &'static [Reply])| {
+    let ask = |line: &str,
+               zone: &mut Zone,
+               job: &mut Request,
+               (kind, replies): (Kind, &'static [Reply])| {
         let request = Request { kind, ..*job };
         let reply = send(zone, &request).expect(line);
         assert!(replies.contains(&reply), "{line}: {reply:?}");
@@ -188,7 +189,10 @@ pub fn replay_jobs(
     make: impl Fn(&Request) -> Result<Job, u8>,
     mut step: impl FnMut(&mut Zone, &mut Job) -> Result<(), u8>,
 ) -> Agreed {
-    let ask = |line: &str, zone: &mut Zone, (job, sent): &mut (Job, u8), (kind, replies): (Kind, &'static [Reply])| {
+    let ask = |line: &str,
+               zone: &mut Zone,
+               (job, sent): &mut (Job, u8),
+               (kind, replies): (Kind, &'static [Reply])| {
         assert_eq!(job.stage, before(kind), "{line}");
         assert_eq!(step(zone, job), Ok(()), "{line}");
         *sent += 1;
