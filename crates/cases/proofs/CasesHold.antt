@@ -27,7 +27,7 @@ use Rattle.update.specs.Rules.{Host, with, heldBy, empty, newHost, left, fits, 
 use Rattle.job.specs.Jobs.{fresh, after, afterFirst, afterSecond, step}
 use Rattle.cases.specs.Cases.{noNames, held, xRemoves, yAdds, Holds, All, cases, stepped, steppedFresh}
 
--- The zone of P12 at its end, at each key.
+-- The zone of P12 at its end has no name: at each key the delete stands over X's writes. Y first and X after computes to the same zone.
 p12-mixed : steppedFresh held xRemoves yAdds (true ∷ false ∷ false ∷ true ∷ []) .zone ≡ noNames
 unfolding sameOctets key including excluding with withName withoutName heldBy empty withAddress withoutAddress newHost requestA requestB removeAddress deleteName removeName fresh after afterFirst afterSecond step stepped steppedFresh
 p12-mixed = λ i. record { size = 0; at = fun-ext at i }

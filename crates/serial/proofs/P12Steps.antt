@@ -14,6 +14,7 @@ use Rattle.serial.specs.P12.{pipe, xDhcid, yDhcid, address1, xPipe, xRem
 abbrev pub state : rules.Zone → Stage → State
 state z s = record { zone = z; stage = s }
 
+-- X's first request takes its one address: the host that is left is X's without any.
 pub x-takes : step xRemoves (heldByX oneAddress) beforeFirst ≡ state (heldByX nothing) beforeSecond
 unfolding heldByX xHost oneAddress xRemoves pipe xDhcid step removeAddress afterFirst heldBy sameOctets key withoutAddress with excluding withName member
 x-takes = λ i. record { zone = record { size = 1; at = fun-ext at i }; stage = beforeSecond }
@@ -36,6 +37,7 @@ x-takes = λ i. record { zone = record { size = 1; at = fun-ext at i }; stage = 
     at : (k : Octets) → step xRemoves (heldByX oneAddress) beforeFirst .zone .at k ≡ heldByX nothing .at k
     at k = go (sameOctets pipe k)
 
+-- Y's request A finds the name, its request B another owner.
 pub y-asks : step yAdds (heldByX nothing) (beforeA 0) ≡ state (heldByX nothing) (beforeB 1)
 unfolding heldByX yAdds pipe step requestA after sameOctets key
 y-asks = refl
@@ -44,6 +46,7 @@ pub y-conflicts : step yAdds (heldByX nothing) (beforeB 1) ≡ state (heldByX no
 unfolding heldByX xHost yAdds pipe xDhcid yDhcid step requestB after heldBy sameOctets key
 y-conflicts = refl
 
+-- X's second request deletes the name: no key has a host then.
 pub x-deletes : step xRemoves (heldByX nothing) beforeSecond ≡ state noNames (ended gone)
 unfolding heldByX xHost xRemoves pipe xDhcid step removeName deleteName afterSecond heldBy sameOctets key withoutName empty
 x-deletes = λ i. record { zone = record { size = 0; at = fun-ext (λ k. go (sameOctets pipe k)) i }; stage = ended gone }
