@@ -54,12 +54,12 @@ const KINDS: &[&str] = &[
     "first remove: not ours, static",
     "first remove: not ours, another owner",
     "second remove: gone",
-    "second remove: kept, absent",
-    "second remove: kept, static",
-    "second remove: kept, another owner",
-    "second remove: kept, family 4 only",
-    "second remove: kept, family 6 only",
-    "second remove: kept, both families",
+    "second remove: NXRRSET, absent",
+    "second remove: NXRRSET, static",
+    "second remove: NXRRSET, another owner",
+    "second remove: YXRRSET, family 4 only",
+    "second remove: YXRRSET, family 6 only",
+    "second remove: YXRRSET, both families",
 ];
 
 /// What the calls on a lent zone gave and did.
@@ -70,6 +70,7 @@ const LENT: &[&str] = &[
     "lent: answer 0",
     "lent: answer 3",
     "lent: answer 6",
+    "lent: answer 7",
     "lent: answer 8",
     "lent: answer 256",
     "lent: no place written",
@@ -338,14 +339,14 @@ fn count_first(tally: &mut Tally, zone: &Zone, request: &Request) {
 fn count_second(tally: &mut Tally, zone: &Zone, request: &Request) {
     let entry = entry_of(zone, request);
     if let Some(reason) = not_ours(entry, request) {
-        return tally.count(&format!("second remove: kept, {reason}"));
+        return tally.count(&format!("second remove: NXRRSET, {reason}"));
     }
     let entry = entry.expect("held");
     tally.count(match (entry.v4.count, entry.v6.count) {
         (0, 0) => "second remove: gone",
-        (_, 0) => "second remove: kept, family 4 only",
-        (0, _) => "second remove: kept, family 6 only",
-        _ => "second remove: kept, both families",
+        (_, 0) => "second remove: YXRRSET, family 4 only",
+        (0, _) => "second remove: YXRRSET, family 6 only",
+        _ => "second remove: YXRRSET, both families",
     });
 }
 
