@@ -37,14 +37,17 @@ wellFormed x =
 unfoldable pub activeAt : Moment → Lease → Bool
 activeAt clock x = eqb (x .state) 1 && isAhead (x .expiry) clock
 
+-- The first n octets of a key are the same, n being at most the length that such a key may have.
+abbrev pub sameKey : ℕ → ℕ → List ℕ → List ℕ → Bool
+sameKey most n a b = leb n most && sameOctets (take n a) (take n b)
+
 -- A hardware key matches on htype, hlen and the first hlen octets.
 unfoldable pub hasHardware : ℕ → ℕ → List ℕ → Lease → Bool
-hasHardware htype hlen octets x =
-    eqb (x .htype) htype && eqb (x .hlen) hlen && (leb hlen 16 && sameOctets (take hlen (x .chaddr)) (take hlen octets))
+hasHardware htype hlen octets x = eqb (x .htype) htype && eqb (x .hlen) hlen && sameKey 16 hlen (x .chaddr) octets
 
 -- A client id matches on its length and octets. One over 64 octets matches nothing.
 unfoldable pub hasClientId : ℕ → List ℕ → Lease → Bool
-hasClientId n octets x = eqb (x .idlen) n && (leb n 64 && sameOctets (take n (x .id)) (take n octets))
+hasClientId n octets x = eqb (x .idlen) n && sameKey 64 n (x .id) octets
 
 -- What a lease is ranked by.
 abbrev pub rankOf : Lease → Rank

@@ -3,18 +3,14 @@ use crate::Lease;
 use crate::leading;
 use octets::compare;
 ghost use mathlib.Core.Path.{_≡_};
-ghost use mathlib.Core.Bool.{_&&_};
-ghost use lib.ListN.{take};
-ghost use lib.Dec.{leb};
-ghost use Rattle.octets.specs.Compare.{sameOctets};
-ghost use Rattle.lease.specs.Lease.{hasHardware, hasClientId};
+ghost use Rattle.lease.specs.Lease.{sameKey, hasHardware, hasClientId};
 
 // How many leading octets are compared as one number.
 const LEADING: u8 = 8;
 
 // Whether the first n octets agree, n being at most 16, one by one.
 fn do_all_match_16(n: u8, a: [u8; 16], b: [u8; 64]) -> bool
-    ensures { λ r. ⌜ r ≡ (leb n 16 && sameOctets (take n a) (take n b)) ⌝ }
+    ensures { λ r. ⌜ r ≡ sameKey 16 n a b ⌝ }
 {
     if 16 < n {
         return false;
@@ -25,7 +21,7 @@ fn do_all_match_16(n: u8, a: [u8; 16], b: [u8; 64]) -> bool
 
 // Whether the first n octets agree, n being at most 64, one by one.
 fn do_all_match_64(n: u8, a: [u8; 64], b: [u8; 64]) -> bool
-    ensures { λ r. ⌜ r ≡ (leb n 64 && sameOctets (take n a) (take n b)) ⌝ }
+    ensures { λ r. ⌜ r ≡ sameKey 64 n a b ⌝ }
 {
     if 64 < n {
         return false;
@@ -37,7 +33,7 @@ fn do_all_match_64(n: u8, a: [u8; 64], b: [u8; 64]) -> bool
 // Whether the first n octets agree, n being at most 16. The first eight are compared as numbers: most
 // keys that differ do so there, and a key of at most eight octets has no more.
 fn do_match_16(n: u8, a: [u8; 16], b: [u8; 64]) -> bool
-    ensures { λ r. ⌜ r ≡ (leb n 16 && sameOctets (take n a) (take n b)) ⌝ }
+    ensures { λ r. ⌜ r ≡ sameKey 16 n a b ⌝ }
 {
     if leading::leading_of_16(n, a) != leading::leading_of_64(n, b) {
         return false;
@@ -50,7 +46,7 @@ fn do_match_16(n: u8, a: [u8; 16], b: [u8; 64]) -> bool
 
 // The same, n being at most 64.
 fn do_match_64(n: u8, a: [u8; 64], b: [u8; 64]) -> bool
-    ensures { λ r. ⌜ r ≡ (leb n 64 && sameOctets (take n a) (take n b)) ⌝ }
+    ensures { λ r. ⌜ r ≡ sameKey 64 n a b ⌝ }
 {
     if leading::leading_of_64(n, a) != leading::leading_of_64(n, b) {
         return false;

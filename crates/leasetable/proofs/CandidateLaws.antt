@@ -1,23 +1,23 @@
 -- What the two scans by client say of the whole table. Assumes nothing.
 use mathlib.Core.Path.{_≡_, refl, sym, _∙_, ap, subst}
-use mathlib.Core.Bool.{_&&_}
+use mathlib.Core.Bool.{cond}
 use mathlib.Core.List.{List, [], _∷_, _++_, foldl, map}
 use Prim.Native.Nat.{ℕ, zero, suc, _+_, _≤_, min}
 use native.Mathlib.Omega.{arith}
 use lib.ListN.{length, take, drop, length-take, length-append, length-drop, length-map}
 use lib.Seq.{take-take, take-append-le}
 use borrow.Table.Steps.{cases}
-use borrow.Author.Tests.{le-ltb}
 use Rattle.clock.specs.declared.Moment.{Moment}
 use Rattle.lease.specs.declared.Lease.{Lease}
 use Rattle.lease.specs.declared.Rank.{Rank}
-use Rattle.lease.specs.Lease.{activeAt, rankOf, ranksBefore}
+use Rattle.lease.specs.Lease.{rankOf, ranksBefore}
 use Rattle.lease.proofs.ListLaws.{take-min}
 use Rattle.leasetable.specs.declared.client.Key.{Key}
 use Rattle.leasetable.specs.declared.candidates.Candidates.{Candidates}
 use Rattle.leasetable.specs.declared.associated.Associated.{Associated}
 use Rattle.leasetable.specs.Table.{those, placed}
-use Rattle.leasetable.specs.Folds.{clientHas, placedRank, inserted, candidatesWants, candidatesAdd, candidatesTurn, associatedWants, associatedAdd, associatedTurn}
+use Rattle.leasetable.specs.Folds.{placedRank, inserted, wanted, noted, candidatesWith, candidatesTurn, associatedWith, associatedTurn}
+use Rattle.leasetable.proofs.ClientLaws.{noted-is}
 
 -- ---- lists of ranks
 placed-rank-length : (e : Rank) (l : List Rank) → length (placedRank e l) ≡ suc (length l)
@@ -96,60 +96,66 @@ reached-more p k ranks l x r =
 abbrev pub order : List Lease → List Lease → List Lease
 order l t = foldl (λ ys x. placed x ys) l t
 
--- ---- candidates
-pub record CandidatesReached (n : ℕ) (clock : Moment) (key : Key) (h : Candidates) (l : List Lease) : Type 0 where
+-- ---- a scan by client, whatever else it carries
+pub record Carried : Type 0 where
+  pub refusal : ℕ
+  pub clock : Moment
+  pub key : Key
+  pub kept : ℕ
+  pub ranks : List Rank
+
+abbrev carriedWith : Carried → ℕ → List Rank → Carried
+carriedWith h kept ranks = record { refusal = h .refusal; clock = h .clock; key = h .key; kept = kept; ranks = ranks }
+
+pub record ClientReached (p n : ℕ) (clock : Moment) (key : Key) (h : Carried) (l : List Lease) : Type 0 where
   pub refusal-is : h .refusal ≡ n
   pub clock-is : h .clock ≡ clock
   pub key-is : h .key ≡ key
-  pub reached : Reached 4 (h .kept) (h .ranks) l
+  pub reached : Reached p (h .kept) (h .ranks) l
 
-candidates-add-is : (h : Candidates) (x : Lease) → h .kept ≤ 4 → candidatesAdd h x ≡ record { refusal = h .refusal; clock = h .clock; key = h .key; kept = min (h .kept + 1) 4; ranks = inserted 4 (h .kept) (rankOf x) (h .ranks) }
-unfolding candidatesAdd
-candidates-add-is h x l = rw (le-ltb 4 (h .kept) l)
+module _ {A : Type 0} (p : ℕ) (of : A → Carried) (carry : A → ℕ → List Rank → A) (carries : (a : A) (k : ℕ) (l : List Rank) → of (carry a k l) ≡ carriedWith (of a) k l) (n : ℕ) (clock : Moment) (key : Key) where
+  abbrev add : A → Lease → A
+  add a x = noted p (of a .kept) (of a .ranks) x (carry a) a
 
-module _ (n : ℕ) (clock : Moment) (key : Key) where
-  candidates-more : (h : Candidates) (l : List Lease) (x : Lease) → CandidatesReached n clock key h l → CandidatesReached n clock key (candidatesAdd h x) (placed x l)
-  candidates-more h l x r =
-      let a = candidates-add-is h x (omega (arith, r .reached .kept-is)) in
-      subst (λ (g : Candidates). CandidatesReached n clock key g (placed x l)) (sym a) (record { refusal-is = r .refusal-is; clock-is = r .clock-is; key-is = r .key-is; reached = reached-more 4 (h .kept) (h .ranks) l x (r .reached) })
+  abbrev turn : A → Lease → A
+  turn a x = cond (wanted (of a .clock) (of a .key) x) (add a x) a
 
-  candidates-wants : (h : Candidates) (l : List Lease) (x : Lease) → CandidatesReached n clock key h l → candidatesWants h x ≡ (activeAt clock x && clientHas key x)
-  candidates-wants h l x r = rw (r .key-is, r .clock-is)
+  client-more : (a : A) (l : List Lease) (x : Lease) → ClientReached p n clock key (of a) l → ClientReached p n clock key (of (add a x)) (placed x l)
+  client-more a l x r =
+      let k = of a .kept in
+      let h : k ≤ p = omega (arith, r .reached .kept-is) in
+      let m = inserted p k (rankOf x) (of a .ranks) in
+      let e : of (add a x) ≡ carriedWith (of a) (min (k + 1) p) m = ap of (noted-is p k (of a .ranks) x (carry a) a h) ∙ carries a (min (k + 1) p) m in
+      subst (λ (g : Carried). ClientReached p n clock key g (placed x l)) (sym e) (record { refusal-is = r .refusal-is; clock-is = r .clock-is; key-is = r .key-is; reached = reached-more p k (of a .ranks) l x (r .reached) })
 
-  -- the scan puts every active lease of the client in its place
-  pub candidates-fold : (t : List Lease) (h : Candidates) (l : List Lease) → CandidatesReached n clock key h l → CandidatesReached n clock key (foldl candidatesTurn h t) (order l (those (λ x. activeAt clock x && clientHas key x) t))
-  unfolding those
-  candidates-fold [] h l r = r
-  candidates-fold (x ∷ xs) h l r =
-      cases (activeAt clock x && clientHas key x)
-      (λ w. rw (w, candidates-wants h l x r ∙ w) (candidates-fold xs (candidatesAdd h x) (placed x l) (candidates-more h l x r)))
-      (λ w. rw (w, candidates-wants h l x r ∙ w) (candidates-fold xs h l r))
-
--- ---- associated
-pub record AssociatedReached (n : ℕ) (clock : Moment) (key : Key) (h : Associated) (l : List Lease) : Type 0 where
-  pub refusal-is : h .refusal ≡ n
-  pub clock-is : h .clock ≡ clock
-  pub key-is : h .key ≡ key
-  pub reached : Reached 63 (h .kept) (h .ranks) l
-
-associated-add-is : (h : Associated) (x : Lease) → h .kept ≤ 63 → associatedAdd h x ≡ record { known = h .known; refusal = h .refusal; clock = h .clock; key = h .key; kept = min (h .kept + 1) 63; ranks = inserted 63 (h .kept) (rankOf x) (h .ranks) }
-unfolding associatedAdd
-associated-add-is h x l = rw (le-ltb 63 (h .kept) l)
-
-module _ (n : ℕ) (clock : Moment) (key : Key) where
-  associated-more : (h : Associated) (l : List Lease) (x : Lease) → AssociatedReached n clock key h l → AssociatedReached n clock key (associatedAdd h x) (placed x l)
-  associated-more h l x r =
-      let a = associated-add-is h x (omega (arith, r .reached .kept-is)) in
-      subst (λ (g : Associated). AssociatedReached n clock key g (placed x l)) (sym a) (record { refusal-is = r .refusal-is; clock-is = r .clock-is; key-is = r .key-is; reached = reached-more 63 (h .kept) (h .ranks) l x (r .reached) })
-
-  associated-wants : (h : Associated) (l : List Lease) (x : Lease) → AssociatedReached n clock key h l → associatedWants h x ≡ (activeAt clock x && clientHas key x)
-  associated-wants h l x r = rw (r .key-is, r .clock-is)
+  client-wants : (a : A) (l : List Lease) (x : Lease) → ClientReached p n clock key (of a) l → wanted (of a .clock) (of a .key) x ≡ wanted clock key x
+  client-wants a l x r = rw (r .key-is, r .clock-is)
 
   -- the scan puts every active lease of the client in its place
-  pub associated-fold : (t : List Lease) (h : Associated) (l : List Lease) → AssociatedReached n clock key h l → AssociatedReached n clock key (foldl associatedTurn h t) (order l (those (λ x. activeAt clock x && clientHas key x) t))
+  client-fold : (t : List Lease) (a : A) (l : List Lease) → ClientReached p n clock key (of a) l → ClientReached p n clock key (of (foldl turn a t)) (order l (those (wanted clock key) t))
   unfolding those
-  associated-fold [] h l r = r
-  associated-fold (x ∷ xs) h l r =
-      cases (activeAt clock x && clientHas key x)
-      (λ w. rw (w, associated-wants h l x r ∙ w) (associated-fold xs (associatedAdd h x) (placed x l) (associated-more h l x r)))
-      (λ w. rw (w, associated-wants h l x r ∙ w) (associated-fold xs h l r))
+  client-fold [] a l r = r
+  client-fold (x ∷ xs) a l r =
+      cases (wanted clock key x)
+      (λ w. rw (w, client-wants a l x r ∙ w) (client-fold xs (add a x) (placed x l) (client-more a l x r)))
+      (λ w. rw (w, client-wants a l x r ∙ w) (client-fold xs a l r))
+
+-- ---- both scans
+abbrev ofCandidates : Candidates → Carried
+ofCandidates a = record { refusal = a .refusal; clock = a .clock; key = a .key; kept = a .kept; ranks = a .ranks }
+
+abbrev ofAssociated : Associated → Carried
+ofAssociated a = record { refusal = a .refusal; clock = a .clock; key = a .key; kept = a .kept; ranks = a .ranks }
+
+abbrev pub CandidatesReached : ℕ → Moment → Key → Candidates → List Lease → Type 0
+CandidatesReached n clock key a l = ClientReached 4 n clock key (ofCandidates a) l
+
+abbrev pub AssociatedReached : ℕ → Moment → Key → Associated → List Lease → Type 0
+AssociatedReached n clock key a l = ClientReached 63 n clock key (ofAssociated a) l
+
+module _ (n : ℕ) (clock : Moment) (key : Key) (t : List Lease) where
+  pub candidates-fold : (a : Candidates) (l : List Lease) → CandidatesReached n clock key a l → CandidatesReached n clock key (foldl candidatesTurn a t) (order l (those (wanted clock key) t))
+  candidates-fold a l r = client-fold 4 ofCandidates candidatesWith (λ a k l. refl) n clock key t a l r
+
+  pub associated-fold : (a : Associated) (l : List Lease) → AssociatedReached n clock key a l → AssociatedReached n clock key (foldl associatedTurn a t) (order l (those (wanted clock key) t))
+  associated-fold a l r = client-fold 63 ofAssociated associatedWith (λ a k l. refl) n clock key t a l r

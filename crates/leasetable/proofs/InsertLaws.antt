@@ -22,7 +22,7 @@ abbrev at : ℕ → List Rank → Rank → ℕ → List Rank
 at n l c i = take i l ++ placedRank c (drop i (take n l))
 
 -- and all that stands behind
-abbrev pub whole : ℕ → List Rank → Rank → ℕ → List Rank
+abbrev whole : ℕ → List Rank → Rank → ℕ → List Rank
 whole n l c i = at n l c i ++ drop (n + 1) l
 
 placed-rank-first : (c y : Rank) (ys : List Rank) → ranksBefore c y ≡ true → placedRank c (y ∷ ys) ≡ c ∷ placedRank y ys
@@ -64,41 +64,64 @@ ends n l c =
     ap (λ (t : List Rank). (take n l ++ placedRank c t) ++ drop (n + 1) l) (drop-of-length-le (take n l) h)
     ∙ append-assoc (take n l) (c ∷ []) (drop (n + 1) l)
 
-pub starts : (p n : ℕ) (l : List Rank) (c : Rank) → inserted p n c l ≡ take p (whole n l c 0)
+-- ---- the loop: of a rank c₀ that goes among the first n of p places, c is left at place i, and l has the ranks so far
+pub record Inserting (p n : ℕ) (l₀ : List Rank) (c₀ : Rank) (l : List Rank) (c : Rank) (i : ℕ) : Type 0 where
+  pub passed : i ≤ n
+  pub room : n ≤ p
+  pub places : length l ≡ p
+  pub rest : inserted p n c₀ l₀ ≡ take p (whole n l c i)
+
+pub insert-start : {p n : ℕ} {l : List Rank} {c : Rank} → n ≤ p → length l ≡ p → Inserting p n l c l c 0
 unfolding inserted
-starts p n l c = refl
+insert-start h g = record { passed = omega arith; room = h; places = g; rest = refl }
 
--- with room, the last goes behind the others
-pub kept : (p n : ℕ) (l : List Rank) (c : Rank) → n < p → length l ≡ p → set l n c ≡ take p (whole n l c n)
-kept p n l c h g =
-    let k : n < length l = omega arith in
-    let e : set l n c ≡ take n l ++ (c ∷ drop (n + 1) l) = rw (add-one, set-split l n c k) in
-    let s : length (set l n c) ≤ p = simp length-set (omega arith) in
-    sym (ap (take p) (ends n l c ∙ sym e) ∙ take-all p (set l n c) s)
-
--- without, it is dropped
-pub dropped : (p n : ℕ) (l : List Rank) (c : Rank) → n ≡ p → length l ≡ p → l ≡ take p (whole n l c n)
-dropped p n l c h g =
-    let s : length (take n l) ≡ p = simp length-take (omega arith) in
-    let a : length l ≤ n = omega arith in
-    sym (ap (take p) (ends n l c) ∙ take-at (take n l) (c ∷ drop (n + 1) l) p s ∙ take-all n l a)
-
--- a turn of the loop that swaps, and one that does not, in the terms of the loop's variables after it
-module _ (p n : ℕ) (l l′ : List Rank) (c c′ : Rank) (i : ℕ) (h : i < n) (m : n ≤ p) (g : length l ≡ p) where
-  pub turn-swaps : ranksBefore c (getD l i noRank) ≡ true → l′ ≡ set l i c → c′ ≡ getD l i noRank → (length l′ ≡ p) × (whole n l c i ≡ whole n l′ c′ (i + 1))
-  turn-swaps e u v =
-      let s : n ≤ length l = omega arith in
-      let k : i < n + 1 = omega arith in (
-        ap length u ∙ simp length-set g,
-        ap (λ (t : List Rank). t ++ drop (n + 1) l) (swaps n l c i noRank h s e)
+module _ {p n : ℕ} {l₀ : List Rank} {c₀ : Rank} {l : List Rank} {c : Rank} {i : ℕ} (s : Inserting p n l₀ c₀ l c i) where
+  -- the rank that is left comes before the one at the place, and the two are exchanged
+  pub insert-swaps : {l′ : List Rank} {c′ : Rank} → i < n → ranksBefore c (getD l i noRank) ≡ true → l′ ≡ set l i c → c′ ≡ getD l i noRank → Inserting p n l₀ c₀ l′ c′ (i + 1)
+  insert-swaps {c′ = d} h e u v =
+      let g = s .places in
+      let m : n ≤ length l = omega (arith, g, s .room) in
+      let k : i < n + 1 = omega arith in
+      record {
+        passed = omega arith;
+        room = s .room;
+        places = ap length u ∙ simp length-set g;
+        rest = s .rest ∙ ap (take p)
+            (ap (λ (t : List Rank). t ++ drop (n + 1) l) (swaps n l c i noRank h m e)
             ∙ ap (λ (t : List Rank). at n (set l i c) (getD l i noRank) (i + 1) ++ t) (sym (drop-set-lt (n + 1) l i c k))
-            ∙ ap (λ (t : List Rank). whole n t (getD l i noRank) (i + 1)) (sym u) ∙ ap (λ (t : Rank). whole n l′ t (i + 1)) (sym v),
-      )
+            ∙ sym (ap (λ (t : List Rank). whole n t d (i + 1)) u ∙ ap (λ (t : Rank). whole n (set l i c) t (i + 1)) v));
+      }
 
-  pub turn-goes-on : ranksBefore c (getD l i noRank) ≡ false → l′ ≡ l → c′ ≡ c → (length l′ ≡ p) × (whole n l c i ≡ whole n l′ c′ (i + 1))
-  turn-goes-on e u v =
-      let s : n ≤ length l = omega arith in (
-        ap length u ∙ g,
-        ap (λ (t : List Rank). t ++ drop (n + 1) l) (goes-on n l c i noRank h s e)
-            ∙ ap (λ (t : List Rank). whole n t c (i + 1)) (sym u) ∙ ap (λ (t : Rank). whole n l′ t (i + 1)) (sym v),
-      )
+  -- it does not, and goes on
+  pub insert-goes-on : {l′ : List Rank} {c′ : Rank} → i < n → ranksBefore c (getD l i noRank) ≡ false → l′ ≡ l → c′ ≡ c → Inserting p n l₀ c₀ l′ c′ (i + 1)
+  insert-goes-on {c′ = d} h e u v =
+      let g = s .places in
+      let m : n ≤ length l = omega (arith, g, s .room) in
+      record {
+        passed = omega arith;
+        room = s .room;
+        places = ap length u ∙ g;
+        rest = s .rest ∙ ap (take p)
+            (ap (λ (t : List Rank). t ++ drop (n + 1) l) (goes-on n l c i noRank h m e)
+            ∙ sym (ap (λ (t : List Rank). whole n t d (i + 1)) u ∙ ap (λ (t : Rank). whole n l t (i + 1)) v));
+      }
+
+  done : n ≤ i → inserted p n c₀ l₀ ≡ take p (take n l ++ (c ∷ drop (n + 1) l))
+  done h =
+      let e : i ≡ n = omega (arith, s .passed) in
+      s .rest ∙ ap (λ (k : ℕ). take p (whole n l c k)) e ∙ ap (take p) (ends n l c)
+
+  -- at the end, with room, the rank that is left goes behind the others
+  pub insert-keeps : n ≤ i → n < p → set l n c ≡ inserted p n c₀ l₀
+  insert-keeps h r =
+      let k : n < length l = omega (arith, s .places) in
+      let e : set l n c ≡ take n l ++ (c ∷ drop (n + 1) l) = rw (add-one, set-split l n c k) in
+      let m : length (set l n c) ≤ p = simp length-set (omega (arith, s .places)) in
+      sym (done h ∙ ap (take p) (sym e) ∙ take-all p (set l n c) m)
+
+  -- without, it is dropped
+  pub insert-drops : n ≤ i → p ≤ n → l ≡ inserted p n c₀ l₀
+  insert-drops h r =
+      let m : length (take n l) ≡ p = simp length-take (omega (arith, s .places, s .room)) in
+      let a : length l ≤ n = omega (arith, s .places) in
+      sym (done h ∙ take-at (take n l) (c ∷ drop (n + 1) l) p m ∙ take-all n l a)

@@ -1,6 +1,6 @@
 -- What the scans together say of the whole table. Assumes nothing.
 use mathlib.Core.Path.{_≡_, refl, sym, _∙_, ap, subst}
-use mathlib.Core.Bool.{Bool, true, false, cond, _&&_}
+use mathlib.Core.Bool.{Bool, true, false, cond}
 use mathlib.Core.List.{List, [], _∷_, foldl, map, headD}
 use Prim.Native.Nat.{ℕ, zero, suc, _≤_, _<_, min}
 use native.Mathlib.Omega.{arith}
@@ -12,14 +12,14 @@ use borrow.Author.Tests.{eq-eqb, ne-eqb, eqb-true, eqb-false, ltb-true, ltb-fals
 use Rattle.clock.specs.declared.Moment.{Moment}
 use Rattle.lease.specs.declared.Lease.{Lease}
 use Rattle.lease.specs.declared.Rank.{Rank}
-use Rattle.lease.specs.Lease.{noLease, activeAt, rankOf, ranksBefore}
+use Rattle.lease.specs.Lease.{noLease, rankOf, ranksBefore}
 use Rattle.leasetable.specs.declared.client.Key.{Key}
 use Rattle.leasetable.specs.declared.candidates.Candidates.{Candidates}
 use Rattle.leasetable.specs.declared.associated.Associated.{Associated}
 use Rattle.leasetable.specs.declared.record.Record.{Record}
 use Rattle.leasetable.specs.declared.look.Found.{Found}
 use Rattle.leasetable.specs.Table.{risesFrom, those, placed}
-use Rattle.leasetable.specs.Folds.{clientHas, candidatesTurn, recordAdd, recordTurn, noRank, noRanks, associatedAt, associatedFrom, recordFor, found, associatedIn, recordIn, looked}
+use Rattle.leasetable.specs.Folds.{wanted, candidatesTurn, recordAdd, recordTurn, noRank, noRanks, associatedAt, associatedFrom, recordFor, found, associatedIn, recordIn, looked}
 use Rattle.leasetable.proofs.FormLaws.{rise-first, rise-rest}
 use Rattle.leasetable.proofs.CandidateLaws.{Reached, reached-none, order, CandidatesReached, candidates-fold, associated-fold}
 
@@ -131,7 +131,7 @@ pub record Looked (n : ℕ) (clock : Moment) (kind : ℕ) (r : Found) (l : List 
 
 module _ (n : ℕ) (clock : Moment) (key : Key) (t : List Lease) where
   abbrev l₀ : List Lease
-  l₀ = order [] (those (λ x. activeAt clock x && clientHas key x) t)
+  l₀ = order [] (those (wanted clock key) t)
 
   -- the ranks, from the first four or from the second scan
   abbrev Ranked : Associated → Type 0
@@ -176,5 +176,5 @@ module _ (n : ℕ) (clock : Moment) (key : Key) (t : List Lease) where
       let u = candidates-fold n clock key t h [] (record { refusal-is = p; clock-is = c; key-is = k; reached = r }) in
       let v = ranked (foldl candidatesTurn h t) u in
       let one : foldl candidatesTurn h t .key .kind ≡ 1 → ⊥ = λ z. (let s = ap (λ (y : Key). y .kind) (u .key-is) in omega (arith, s, z, g)) in
-      let w = best (foldl candidatesTurn h t) l₀ one (u .reached) (all-order (Only 0 t) [] (those (λ x. activeAt clock x && clientHas key x) t) tt (all-those (Only 0 t) (λ x. activeAt clock x && clientHas key x) t (all-only t 0 e))) e in
+      let w = best (foldl candidatesTurn h t) l₀ one (u .reached) (all-order (Only 0 t) [] (those (wanted clock key) t) tt (all-those (Only 0 t) (wanted clock key) t (all-only t 0 e))) e in
       rw o (record { refusal-is = v .0; clock-is = v .1; kind-is = ap (λ (y : Key). y .kind) (v .2); kept-is = v .3; ranks-are = v .4; best-is = w .0; above = w .1 })

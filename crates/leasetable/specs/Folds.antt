@@ -5,6 +5,7 @@ use mathlib.Core.Bool.{Bool, true, false, cond, _&&_}
 use mathlib.Core.List.{List, [], _∷_, _++_, foldl}
 use lib.Dec.{ltb, eqb}
 use lib.ListN.{take, drop, getD, replicate, set}
+use Rattle.clock.specs.declared.Moment.{Moment}
 use Rattle.clock.specs.Clock.{moment}
 use Rattle.lease.specs.declared.Lease.{Lease}
 use Rattle.lease.specs.declared.Rank.{Rank}
@@ -57,23 +58,27 @@ placedRank e (y ∷ ys) = cond (ranksBefore e y) (e ∷ placedRank y ys) (y ∷ 
 unfoldable pub inserted : ℕ → ℕ → Rank → List Rank → List Rank
 inserted places n e ranks = take places (placedRank e (take n ranks) ++ drop (n + 1) ranks)
 
+-- a lease is to be noted if it is active and has the client's key
+abbrev pub wanted : Moment → Key → Lease → Bool
+wanted clock k x = activeAt clock x && clientHas k x
+
+-- a lease is noted by its rank: what is carried, a, gets one rank more, of so many places at most
+unfoldable pub noted : {A : Type 0} → ℕ → ℕ → List Rank → Lease → (ℕ → List Rank → A) → A → A
+noted places kept ranks x carry a = cond (ltb places kept) a (carry (min (kept + 1) places) (inserted places kept (rankOf x) ranks))
+
 -- ---- candidates: the ranks of the client's first four active leases
 abbrev pub candidatesOff : Candidates → Bool
 candidatesOff a = ltb (a .key .kind) 2
 
 abbrev pub candidatesWants : Candidates → Lease → Bool
-candidatesWants a x = activeAt (a .clock) x && clientHas (a .key) x
+candidatesWants a x = wanted (a .clock) (a .key) x
 
-unfoldable pub candidatesAdd : Candidates → Lease → Candidates
-candidatesAdd a x =
-    cond (ltb 4 (a .kept)) a
-    (record {
-      refusal = a .refusal;
-      clock = a .clock;
-      key = a .key;
-      kept = min (a .kept + 1) 4;
-      ranks = inserted 4 (a .kept) (rankOf x) (a .ranks);
-    })
+-- the same with other ranks
+abbrev pub candidatesWith : Candidates → ℕ → List Rank → Candidates
+candidatesWith a kept ranks = record { refusal = a .refusal; clock = a .clock; key = a .key; kept = kept; ranks = ranks }
+
+abbrev pub candidatesAdd : Candidates → Lease → Candidates
+candidatesAdd a x = noted 4 (a .kept) (a .ranks) x (candidatesWith a) a
 
 abbrev pub candidatesTurn : Candidates → Lease → Candidates
 candidatesTurn a x = cond (candidatesWants a x) (candidatesAdd a x) a
@@ -83,19 +88,14 @@ abbrev pub associatedOff : Associated → Bool
 associatedOff a = a .known
 
 abbrev pub associatedWants : Associated → Lease → Bool
-associatedWants a x = activeAt (a .clock) x && clientHas (a .key) x
+associatedWants a x = wanted (a .clock) (a .key) x
 
-unfoldable pub associatedAdd : Associated → Lease → Associated
-associatedAdd a x =
-    cond (ltb 63 (a .kept)) a
-    (record {
-      known = a .known;
-      refusal = a .refusal;
-      clock = a .clock;
-      key = a .key;
-      kept = min (a .kept + 1) 63;
-      ranks = inserted 63 (a .kept) (rankOf x) (a .ranks);
-    })
+-- the same with other ranks
+abbrev pub associatedWith : Associated → ℕ → List Rank → Associated
+associatedWith a kept ranks = record { known = a .known; refusal = a .refusal; clock = a .clock; key = a .key; kept = kept; ranks = ranks }
+
+abbrev pub associatedAdd : Associated → Lease → Associated
+associatedAdd a x = noted 63 (a .kept) (a .ranks) x (associatedWith a) a
 
 abbrev pub associatedTurn : Associated → Lease → Associated
 associatedTurn a x = cond (associatedWants a x) (associatedAdd a x) a

@@ -1,45 +1,17 @@
-use borrow.Author.Tests.{le-leb}
-use borrow.Author.Needs.{needs}
-use mathlib.Core.Path.{_≡_, sym, _∙_}
-use mathlib.Core.Bool.{and-false}
 use native.Mathlib.Omega.{arith}
-use Prim.Native.Nat.{_≤_}
-use lib.Dec.{leb}
-use lib.ListN.{length}
-use Rattle.lease.proofs.LeadingLaws.{lead-apart, array-octets, lead-alike}
+use borrow.Author.Needs.{needs}
+use Rattle.lease.proofs.KeyLaws.{match-apart, match-alike}
 use Rattle.lease.proofs.key.do_match_16.Statement.{statement}
 use Rattle.lease.proofs.key.do_match_16.Tie as tie
 
-leading-of-16-requires : tie.Need-leading-of-16-requires
-leading-of-16-requires c κs = search needs
-
-leading-of-64-requires : tie.Need-leading-of-64-requires
-leading-of-64-requires c κs = search needs
-
-returns : tie.Need-returns
-returns c =
-    let s = c .before .before .before .args in
-    rw (lead-apart (s .n) (s .a) (s .b) (λ e. c .if1 .taken (c .before .before .leading-of-16 .ensures ∙ e ∙ sym (c .before .leading-of-64 .ensures)))) (sym (and-false (leb (s .n) 16)))
-
-returns-2 : tie.Need-returns-2
-returns-2 c =
+alike : tie.Need-returns-2
+alike c =
     let s = c .before .before .before .before in
-    let n = s .args .n in
-    let a = s .args .a in
-    let b = s .args .b in
-    let e : length a ≡ 16 = search needs in
-    let f : length b ≡ 64 = search needs in
-    let h : n ≤ 8 = c .if2 .taken in
-    let q = sym (c .before .before .before .leading-of-16 .ensures) ∙ c .before .if1 .left ∙ c .before .before .leading-of-64 .ensures in
-    let r = lead-alike n a b h (array-octets 16 a (s .good .1 .0)) (array-octets 64 b (s .good .1 .1 .0)) q (omega arith) (omega arith) in
-    simp (le-leb n 16 (omega arith), r)
-
-do-all-match-16-requires : tie.Need-do-all-match-16-requires
-do-all-match-16-requires c κs = search needs
-
-returns-3 : tie.Need-returns-3
-returns-3 c = search needs
+    match-alike 16 _ _ _ (c .before .before .before .leading-of-16 .ensures) (c .before .before .leading-of-64 .ensures) 64 (s .good .1 .0) (s .good .1 .1 .0) (omega arith) (omega arith) (c .before .if1 .left) (c .if2 .taken)
 
 pub do-match-16-spec : {M : Type 1} → statement M
 do-match-16-spec =
-    tie.close (tie.spec leading-of-16-requires leading-of-64-requires returns returns-2 do-all-match-16-requires returns-3)
+    tie.close
+    (tie.spec (λ c κs. search needs) (λ c κs. search needs)
+    (λ c. match-apart _ _ _ _ (c .before .before .leading-of-16 .ensures) (c .before .leading-of-64 .ensures) (c .if1 .taken)) alike
+    (λ c κs. search needs) (λ c. search needs))
