@@ -27,54 +27,6 @@ labels-at t = and 1 labels-kinds.ps (is 1 labels-kinds.ps μ-labels t) labels.Pr
 abbrev labels-below : ℕ → In 1 labels-kinds.ps
 labels-below t = and 1 labels-kinds.ps (falls 1 labels-kinds.ps _<_ μ-labels t) labels.Pre
 
-labels-past-labels-requires : (t : ℕ) → labels-lts.Need-past-labels-requires (
-  past-labels-reads.Asked,
-  past-labels-reads.Learnt,
-  past-label-reads.Asked,
-  past-label-reads.Learnt,
-  end-at-reads.Asked,
-  end-at-reads.Learnt,
-  labels-below t,
-  labels.Post,
-) (labels-at t) labels.Post
-labels-past-labels-requires t c κs = search needs
-
-labels-past-labels-requires-2 : (t : ℕ) → labels-lts.Need-past-labels-requires-2 (
-  past-labels-reads.Asked,
-  past-labels-reads.Learnt,
-  past-label-reads.Asked,
-  past-label-reads.Learnt,
-  end-at-reads.Asked,
-  end-at-reads.Learnt,
-  labels-below t,
-  labels.Post,
-) (labels-at t) labels.Post
-labels-past-labels-requires-2 t c κs = search needs
-
-labels-past-label-requires : (t : ℕ) → labels-lts.Need-past-label-requires (
-  past-labels-reads.Asked,
-  past-labels-reads.Learnt,
-  past-label-reads.Asked,
-  past-label-reads.Learnt,
-  end-at-reads.Asked,
-  end-at-reads.Learnt,
-  labels-below t,
-  labels.Post,
-) (labels-at t) labels.Post
-labels-past-label-requires t c κs = search needs
-
-labels-end-at-requires : (t : ℕ) → labels-lts.Need-end-at-requires (
-  past-labels-reads.Asked,
-  past-labels-reads.Learnt,
-  past-label-reads.Asked,
-  past-label-reads.Learnt,
-  end-at-reads.Asked,
-  end-at-reads.Learnt,
-  labels-below t,
-  labels.Post,
-) (labels-at t) labels.Post
-labels-end-at-requires t c κs = search needs
-
 labels-returns : (t : ℕ) → labels-lts.Need-returns (
   past-labels-reads.Asked,
   past-labels-reads.Learnt,
@@ -100,30 +52,6 @@ labels-sub-labels : (t : ℕ) → labels-lts.Need-sub-labels (
   labels.Post,
 ) (labels-at t) labels.Post
 labels-sub-labels t c = let p = c .before .past-label .ensures .passed .within in omega arith
-
-labels-part-labels-start : (t : ℕ) → labels-lts.Need-part-labels-start (
-  past-labels-reads.Asked,
-  past-labels-reads.Learnt,
-  past-label-reads.Asked,
-  past-label-reads.Learnt,
-  end-at-reads.Asked,
-  end-at-reads.Learnt,
-  labels-below t,
-  labels.Post,
-) (labels-at t) labels.Post
-labels-part-labels-start t c = search needs
-
-labels-part-labels-end : (t : ℕ) → labels-lts.Need-part-labels-end (
-  past-labels-reads.Asked,
-  past-labels-reads.Learnt,
-  past-label-reads.Asked,
-  past-label-reads.Learnt,
-  end-at-reads.Asked,
-  end-at-reads.Learnt,
-  labels-below t,
-  labels.Post,
-) (labels-at t) labels.Post
-labels-part-labels-end t c = search needs
 
 labels-labels-requires : (t : ℕ) → labels-lts.Need-labels-requires (
   past-labels-reads.Asked,
@@ -171,13 +99,13 @@ pub +labels-spec : {M : Type 1} → statement M
 )
     (labels-at t)
     labels.Post
-    (labels-past-labels-requires t)
-    (labels-past-labels-requires-2 t)
-    (labels-past-label-requires t)
-    (labels-end-at-requires t)
+    (λ c κs. search needs)
+    (λ c κs. search needs)
+    (λ c κs. search needs)
+    (λ c κs. search needs)
     (labels-returns t)
     (labels-sub-labels t)
-    (labels-part-labels-start t)
-    (labels-part-labels-end t)
+    (λ c. search needs)
+    (λ c. search needs)
     (labels-labels-requires t)
     (labels-returns-2 t)

@@ -6,23 +6,14 @@ use borrow.Author.Needs.{needs}
 use Rattle.step.proofs.step_b.Statement.{statement}
 use Rattle.step.proofs.step_b.Tie as tie
 
-jespurla-request-b-requires : tie.Need-jespurla-request-b-requires
-jespurla-request-b-requires c κs = search needs
-
 add-after-add : tie.Need-add-after-add
 add-after-add c =
     let s = c .before .before in
     let h : s .args .job .count < 6 = count-b (s .args .job) (s .pre .0) (s .pre .1) in
     omega arith
 
-after-add-requires : tie.Need-after-add-requires
-after-add-requires c κs = search needs
-
-carried-requires : tie.Need-carried-requires
-carried-requires c κs = search needs
-
 returns : tie.Need-returns
 returns c = step-kept (c .before .before .before .before .args .zone) (c .before .before .before .before .args .job) (c .before .before .before .before .args .job .policy) _ (after (c .before .before .before .before .args .job .count + 1)) (c .before .before .before .jespurla-request-b .result) (c .before .after-add .result) (c .carried .result) (c .before .before .before .before .pre .0) (numbers-policy (c .before .before .before .before .args .job) (c .before .before .before .before .pre .0) (c .before .before .before .before .pre .1)) (step-at-b (c .before .before .before .before .args .zone) (c .before .before .before .before .args .job) (c .before .before .before .before .pre .1)) (c .before .before .before .jespurla-request-b .ensures) (c .before .after-add .ensures) (c .carried .ensures)
 
 pub step-b-spec : {M : Type 1} → statement M
-step-b-spec = tie.close (tie.spec jespurla-request-b-requires add-after-add after-add-requires carried-requires returns)
+step-b-spec = tie.close (tie.spec (λ c κs. search needs) add-after-add (λ c κs. search needs) (λ c κs. search needs) returns)

@@ -4,19 +4,10 @@ use borrow.Author.Needs.{needs}
 use Rattle.step.proofs.step_second.Statement.{statement}
 use Rattle.step.proofs.step_second.Tie as tie
 
-jespurla-request-remove-name-requires : tie.Need-jespurla-request-remove-name-requires
-jespurla-request-remove-name-requires c κs = search needs
-
-after-second-requires : tie.Need-after-second-requires
-after-second-requires c κs = search needs
-
-carried-requires : tie.Need-carried-requires
-carried-requires c κs = search needs
-
 returns : tie.Need-returns
 returns c = step-kept (c .before .before .before .args .zone) (c .before .before .before .args .job) 0 _ afterSecond (c .before .before .jespurla-request-remove-name .result) (c .before .after-second .result) (c .carried .result) (c .before .before .before .pre .0) (numbers-zero (c .before .before .before .args .job) (c .before .before .before .pre .0)) (step-at-second (c .before .before .before .args .zone) (c .before .before .before .args .job) (c .before .before .before .pre .1)) (c .before .before .jespurla-request-remove-name .ensures) (c .before .after-second .ensures) (c .carried .ensures)
 
 pub step-second-spec : {M : Type 1} → statement M
 step-second-spec =
     tie.close
-    (tie.spec jespurla-request-remove-name-requires after-second-requires carried-requires returns)
+    (tie.spec (λ c κs. search needs) (λ c κs. search needs) (λ c κs. search needs) returns)

@@ -10,23 +10,11 @@ use borrow.Author.Needs.{needs}
 use Rattle.step.proofs.lent.step_b.Statement.{statement}
 use Rattle.step.proofs.lent.step_b.Tie as tie
 
-jespurla-request-b-lent-requires : tie.Need-jespurla-request-b-lent-requires
-jespurla-request-b-lent-requires c κs = search needs
-
 add-after-add : tie.Need-add-after-add
 add-after-add c =
     let s = c .before .before .before .before .before .before in
     let h : s .args .job .count < 6 = count-b (s .args .job) (s .pre .0) (s .pre .1) in
     omega arith
-
-after-add-requires : tie.Need-after-add-requires
-after-add-requires c κs = search needs
-
-carried-requires : tie.Need-carried-requires
-carried-requires c κs = search needs
-
-same-length : tie.Need-same-length
-same-length c = search needs
 
 returns : tie.Need-returns
 returns c =
@@ -39,9 +27,9 @@ pub step-b-spec : {M : Type 1} → statement M
 step-b-spec =
     tie.close
     (tie.spec
-    jespurla-request-b-lent-requires
+    (λ c κs. search needs)
     add-after-add
-    after-add-requires
-    carried-requires
-    same-length
+    (λ c κs. search needs)
+    (λ c κs. search needs)
+    (λ c. search needs)
     returns)

@@ -8,19 +8,6 @@ use borrow.Author.Needs.{needs}
 use Rattle.step.proofs.lent.step_first.Statement.{statement}
 use Rattle.step.proofs.lent.step_first.Tie as tie
 
-jespurla-request-remove-address-lent-requires :
-    tie.Need-jespurla-request-remove-address-lent-requires
-jespurla-request-remove-address-lent-requires c κs = search needs
-
-after-first-requires : tie.Need-after-first-requires
-after-first-requires c κs = search needs
-
-carried-requires : tie.Need-carried-requires
-carried-requires c κs = search needs
-
-same-length : tie.Need-same-length
-same-length c = search needs
-
 returns : tie.Need-returns
 returns c =
     let s = c .before .before .before .before .before .before .before in
@@ -32,8 +19,8 @@ pub step-first-spec : {M : Type 1} → statement M
 step-first-spec =
     tie.close
     (tie.spec
-    jespurla-request-remove-address-lent-requires
-    after-first-requires
-    carried-requires
-    same-length
+    (λ c κs. search needs)
+    (λ c κs. search needs)
+    (λ c κs. search needs)
+    (λ c. search needs)
     returns)

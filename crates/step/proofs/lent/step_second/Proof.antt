@@ -8,18 +8,6 @@ use borrow.Author.Needs.{needs}
 use Rattle.step.proofs.lent.step_second.Statement.{statement}
 use Rattle.step.proofs.lent.step_second.Tie as tie
 
-jespurla-request-remove-name-lent-requires : tie.Need-jespurla-request-remove-name-lent-requires
-jespurla-request-remove-name-lent-requires c κs = search needs
-
-after-second-requires : tie.Need-after-second-requires
-after-second-requires c κs = search needs
-
-carried-requires : tie.Need-carried-requires
-carried-requires c κs = search needs
-
-same-length : tie.Need-same-length
-same-length c = search needs
-
 returns : tie.Need-returns
 returns c =
     let s = c .before .before .before .before .before .before .before in
@@ -31,8 +19,8 @@ pub step-second-spec : {M : Type 1} → statement M
 step-second-spec =
     tie.close
     (tie.spec
-    jespurla-request-remove-name-lent-requires
-    after-second-requires
-    carried-requires
-    same-length
+    (λ c κs. search needs)
+    (λ c κs. search needs)
+    (λ c κs. search needs)
+    (λ c. search needs)
     returns)
