@@ -7,15 +7,6 @@ use borrow.Author.Needs.{needs}
 use Rattle.request.proofs.jespurla_request_b.Statement.{statement}
 use Rattle.request.proofs.jespurla_request_b.Tie as tie
 
-request-of-requires : tie.Need-request-of-requires
-request-of-requires c κs = search needs
-
-effect-of-requires : tie.Need-effect-of-requires
-effect-of-requires c κs = search needs
-
-settle-requires : tie.Need-settle-requires
-settle-requires c κs = search needs
-
 returns : tie.Need-returns
 unfolding requestOf
 returns c =
@@ -23,4 +14,4 @@ returns c =
     request-kept 2 (requestB (policyOf (a .policy))) (a .zone) (a .name) (a .dhcid) (a .family) (a .address) (a .policy) _ _ _ refl (c .before .before .request-of .ensures) (c .before .effect-of .ensures) (c .settle .ensures)
 
 pub jespurla-request-b-spec : {M : Type 1} → statement M
-jespurla-request-b-spec = tie.close (tie.spec request-of-requires effect-of-requires settle-requires returns)
+jespurla-request-b-spec = tie.close (tie.spec (λ c κs. search needs) (λ c κs. search needs) (λ c κs. search needs) returns)

@@ -6,15 +6,6 @@ use borrow.Author.Needs.{needs}
 use Rattle.request.proofs.jespurla_request_remove_name.Statement.{statement}
 use Rattle.request.proofs.jespurla_request_remove_name.Tie as tie
 
-request-of-requires : tie.Need-request-of-requires
-request-of-requires c κs = search needs
-
-effect-of-requires : tie.Need-effect-of-requires
-effect-of-requires c κs = search needs
-
-settle-requires : tie.Need-settle-requires
-settle-requires c κs = search needs
-
 returns : tie.Need-returns
 unfolding requestOf
 returns c =
@@ -22,4 +13,4 @@ returns c =
     request-kept 4 removeName (a .zone) (a .name) (a .dhcid) (a .family) (a .address) 0 _ _ _ refl (c .before .before .request-of .ensures) (c .before .effect-of .ensures) (c .settle .ensures)
 
 pub jespurla-request-remove-name-spec : {M : Type 1} → statement M
-jespurla-request-remove-name-spec = tie.close (tie.spec request-of-requires effect-of-requires settle-requires returns)
+jespurla-request-remove-name-spec = tie.close (tie.spec (λ c κs. search needs) (λ c κs. search needs) (λ c κs. search needs) returns)

@@ -6,27 +6,6 @@ use Rattle.serverlines.proofs.LineLaws.{list-put}
 use Rattle.serverlines.proofs.put_list.Statement.{statement}
 use Rattle.serverlines.proofs.put_list.Tie as tie
 
-held-count-requires : tie.Need-held-count-requires
-held-count-requires c κs = search needs
-
-slice-aggregate-put-octets : tie.Need-slice-aggregate-put-octets
-slice-aggregate-put-octets c = search needs
-
-put-octets-requires : tie.Need-put-octets-requires
-put-octets-requires c κs = search needs
-
-put-decimal-requires : tie.Need-put-decimal-requires
-put-decimal-requires c κs = search needs
-
-put-octet-requires : tie.Need-put-octet-requires
-put-octet-requires c κs = search needs
-
-put-servers-requires : tie.Need-put-servers-requires
-put-servers-requires c κs = search needs
-
-same-length : tie.Need-same-length
-same-length c = search needs
-
 returns : tie.Need-returns
 unfolding ascii
 returns c =
@@ -42,11 +21,11 @@ pub put-list-spec : {M : Type 1} → statement M
 put-list-spec =
     tie.close
     (tie.spec
-    held-count-requires
-    slice-aggregate-put-octets
-    put-octets-requires
-    put-decimal-requires
-    put-octet-requires
-    put-servers-requires
-    same-length
+    (λ c κs. search needs)
+    (λ c. search needs)
+    (λ c κs. search needs)
+    (λ c κs. search needs)
+    (λ c κs. search needs)
+    (λ c κs. search needs)
+    (λ c. search needs)
     returns)

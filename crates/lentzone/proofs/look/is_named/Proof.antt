@@ -12,15 +12,9 @@ use borrow.Author.Needs.{needs}
 use Rattle.lentzone.proofs.look.is_named.Statement.{statement}
 use Rattle.lentzone.proofs.look.is_named.Tie as tie
 
-shared-slice-read-if1 : tie.Need-shared-slice-read-if1
-shared-slice-read-if1 c = search needs
-
 returns : tie.Need-returns
 unfolding used named
 returns c = simp (eq-eqb _ _ (c .if1 .taken))
-
-shared-slice-read-end : tie.Need-shared-slice-read-end
-shared-slice-read-end c = search needs
 
 cast-end : tie.Need-cast-end
 cast-end c = omega (arith, c .shared-slice-known4 .given 256)
@@ -28,17 +22,8 @@ cast-end c = omega (arith, c .shared-slice-known4 .given 256)
 add-end : tie.Need-add-end
 add-end c = omega (arith, c .shared-slice-known4 .given 256)
 
-sub-same-name : tie.Need-sub-same-name
-sub-same-name c = search needs
-
-part-same-name-start : tie.Need-part-same-name-start
-part-same-name-start c = search needs
-
 part-same-name-end : tie.Need-part-same-name-end
 part-same-name-end c = omega (arith, c .shared-slice-known4 .given 256)
-
-same-name-requires : tie.Need-same-name-requires
-same-name-requires c κs = search needs
 
 returns-2 : tie.Need-returns-2
 unfolding used named
@@ -51,13 +36,13 @@ pub is-named-spec : {M : Type 1} → statement M
 is-named-spec =
     tie.close
     (tie.spec
-    shared-slice-read-if1
+    (λ c. search needs)
     returns
-    shared-slice-read-end
+    (λ c. search needs)
     cast-end
     add-end
-    sub-same-name
-    part-same-name-start
+    (λ c. search needs)
+    (λ c. search needs)
     part-same-name-end
-    same-name-requires
+    (λ c κs. search needs)
     returns-2)

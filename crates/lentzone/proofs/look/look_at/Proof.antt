@@ -14,38 +14,14 @@ use borrow.Author.Needs.{needs}
 use Rattle.lentzone.proofs.look.look_at.Statement.{statement}
 use Rattle.lentzone.proofs.look.look_at.Tie as tie
 
-shared-slice-read-end : tie.Need-shared-slice-read-end
-shared-slice-read-end c = search needs
-
 cast-end : tie.Need-cast-end
 cast-end c = omega (arith, c .shared-slice-known3 .given 256)
 
 add-end : tie.Need-add-end
 add-end c = omega (arith, c .shared-slice-known3 .given 256)
 
-sub-octets : tie.Need-sub-octets
-sub-octets c = search needs
-
-part-octets-start : tie.Need-part-octets-start
-part-octets-start c = search needs
-
 part-octets-end : tie.Need-part-octets-end
 part-octets-end c = omega (arith, c .shared-slice-known3 .given 256)
-
-fingerprint-requires : tie.Need-fingerprint-requires
-fingerprint-requires c κs = search needs
-
-is-full-name-requires : tie.Need-is-full-name-requires
-is-full-name-requires c κs = search needs
-
-are-sets-sound-requires : tie.Need-are-sets-sound-requires
-are-sets-sound-requires c κs = search needs
-
-shared-slice-read-is-in-order : tie.Need-shared-slice-read-is-in-order
-shared-slice-read-is-in-order c = search needs
-
-is-in-order-requires : tie.Need-is-in-order-requires
-is-in-order-requires c κs = search needs
 
 is-same-requires : tie.Need-is-same-requires
 is-same-requires c κs =
@@ -68,16 +44,16 @@ pub look-at-spec : {M : Type 1} → statement M
 look-at-spec =
     tie.close
     (tie.spec
-    shared-slice-read-end
+    (λ c. search needs)
     cast-end
     add-end
-    sub-octets
-    part-octets-start
+    (λ c. search needs)
+    (λ c. search needs)
     part-octets-end
-    fingerprint-requires
-    is-full-name-requires
-    are-sets-sound-requires
-    shared-slice-read-is-in-order
-    is-in-order-requires
+    (λ c κs. search needs)
+    (λ c κs. search needs)
+    (λ c κs. search needs)
+    (λ c. search needs)
+    (λ c κs. search needs)
     is-same-requires
     returns)

@@ -12,26 +12,14 @@ use borrow.Author.Needs.{needs}
 use Rattle.lentzone.proofs.names.stands_from.Statement.{statement}
 use Rattle.lentzone.proofs.names.stands_from.Tie as tie
 
-shared-slice-read-end : tie.Need-shared-slice-read-end
-shared-slice-read-end c = search needs
-
 cast-end : tie.Need-cast-end
 cast-end c = omega (arith, c .shared-slice-known3 .given 256)
 
 add-end : tie.Need-add-end
 add-end c = omega (arith, c .shared-slice-known3 .given 256)
 
-sub-named-from : tie.Need-sub-named-from
-sub-named-from c = search needs
-
-part-named-from-start : tie.Need-part-named-from-start
-part-named-from-start c = search needs
-
 part-named-from-end : tie.Need-part-named-from-end
 part-named-from-end c = omega (arith, c .shared-slice-known3 .given 256)
-
-named-from-requires : tie.Need-named-from-requires
-named-from-requires c κs = search needs
 
 returns : tie.Need-returns
 returns c =
@@ -43,11 +31,11 @@ pub stands-from-spec : {M : Type 1} → statement M
 stands-from-spec =
     tie.close
     (tie.spec
-    shared-slice-read-end
+    (λ c. search needs)
     cast-end
     add-end
-    sub-named-from
-    part-named-from-start
+    (λ c. search needs)
+    (λ c. search needs)
     part-named-from-end
-    named-from-requires
+    (λ c κs. search needs)
     returns)

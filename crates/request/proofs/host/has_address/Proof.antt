@@ -6,22 +6,10 @@ use borrow.Author.Needs.{needs}
 use Rattle.request.proofs.host.has_address.Statement.{statement}
 use Rattle.request.proofs.host.has_address.Tie as tie
 
-addr4-requires : tie.Need-addr4-requires
-addr4-requires c κs = search needs
-
-has4-requires : tie.Need-has4-requires
-has4-requires c κs = search needs
-
 returns : tie.Need-returns
 returns c =
     let s = c .before .before .before .before in
     record { hasIs = λ n u b. c .has4 .ensures ∙ sym (has-by (placeOf n (s .args .e)) u four _ (means4 b (c .before .before .before .if1 .taken) (c .before .addr4 .ensures))) }
-
-addr6-requires : tie.Need-addr6-requires
-addr6-requires c κs = search needs
-
-has6-requires : tie.Need-has6-requires
-has6-requires c κs = search needs
 
 returns-2 : tie.Need-returns-2
 returns-2 c =
@@ -31,4 +19,4 @@ returns-2 c =
 pub has-address-spec : {M : Type 1} → statement M
 has-address-spec =
     tie.close
-    (tie.spec addr4-requires has4-requires returns addr6-requires has6-requires returns-2)
+    (tie.spec (λ c κs. search needs) (λ c κs. search needs) returns (λ c κs. search needs) (λ c κs. search needs) returns-2)

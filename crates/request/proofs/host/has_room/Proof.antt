@@ -6,22 +6,10 @@ use borrow.Author.Needs.{needs}
 use Rattle.request.proofs.host.has_room.Statement.{statement}
 use Rattle.request.proofs.host.has_room.Tie as tie
 
-addr4-requires : tie.Need-addr4-requires
-addr4-requires c κs = search needs
-
-has-room4-requires : tie.Need-has-room4-requires
-has-room4-requires c κs = search needs
-
 returns : tie.Need-returns
 returns c =
     let s = c .before .before .before .before in
     record { roomIs = λ n u b. c .has-room4 .ensures ∙ sym (fits-by (placeOf n (s .args .e)) u four _ (means4 b (c .before .before .before .if1 .taken) (c .before .addr4 .ensures))) }
-
-addr6-requires : tie.Need-addr6-requires
-addr6-requires c κs = search needs
-
-has-room6-requires : tie.Need-has-room6-requires
-has-room6-requires c κs = search needs
 
 returns-2 : tie.Need-returns-2
 returns-2 c =
@@ -31,4 +19,4 @@ returns-2 c =
 pub has-room-spec : {M : Type 1} → statement M
 has-room-spec =
     tie.close
-    (tie.spec addr4-requires has-room4-requires returns addr6-requires has-room6-requires returns-2)
+    (tie.spec (λ c κs. search needs) (λ c κs. search needs) returns (λ c κs. search needs) (λ c κs. search needs) returns-2)

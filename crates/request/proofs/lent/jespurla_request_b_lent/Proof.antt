@@ -8,12 +8,6 @@ use borrow.Author.Needs.{needs}
 use Rattle.request.proofs.lent.jespurla_request_b_lent.Statement.{statement}
 use Rattle.request.proofs.lent.jespurla_request_b_lent.Tie as tie
 
-send-requires : tie.Need-send-requires
-send-requires c κs = search needs
-
-same-length : tie.Need-same-length
-same-length c = search needs
-
 returns : tie.Need-returns
 unfolding requestOf
 returns c =
@@ -22,4 +16,4 @@ returns c =
     promised-same (s .octets .now) (nameOf (s .t2)) (s .family) (s .policy) (requestOf 2 (s .policy) u) (requestB (policyOf (s .policy)) u) _ _ (λ x. refl) (c .before .before .send .ensures)
 
 pub jespurla-request-b-lent-spec : {M : Type 1} → statement M
-jespurla-request-b-lent-spec = tie.close (tie.spec send-requires same-length returns)
+jespurla-request-b-lent-spec = tie.close (tie.spec (λ c κs. search needs) (λ c. search needs) returns)

@@ -8,12 +8,6 @@ use borrow.Author.Needs.{needs}
 use Rattle.request.proofs.lent.jespurla_request_remove_address_lent.Statement.{statement}
 use Rattle.request.proofs.lent.jespurla_request_remove_address_lent.Tie as tie
 
-send-requires : tie.Need-send-requires
-send-requires c κs = search needs
-
-same-length : tie.Need-same-length
-same-length c = search needs
-
 returns : tie.Need-returns
 unfolding requestOf
 returns c =
@@ -22,4 +16,4 @@ returns c =
     promised-same (s .octets .now) (nameOf (s .t2)) (s .family) 0 (requestOf 3 0 u) (removeAddress u) _ _ (λ x. refl) (c .before .before .send .ensures)
 
 pub jespurla-request-remove-address-lent-spec : {M : Type 1} → statement M
-jespurla-request-remove-address-lent-spec = tie.close (tie.spec send-requires same-length returns)
+jespurla-request-remove-address-lent-spec = tie.close (tie.spec (λ c κs. search needs) (λ c. search needs) returns)
