@@ -62,7 +62,7 @@ inserted places n e ranks = take places (placedRank e (take n ranks) ++ drop (n 
 abbrev pub wanted : Moment → Key → Lease → Bool
 wanted clock k x = activeAt clock x && clientHas k x
 
--- a lease is noted by its rank: what is carried, a, gets one rank more, of so many places at most
+-- a lease is noted by its rank: `carry` gives what is carried with one rank more, of so many places at most. With more ranks than places, which no scan comes to, a stays as it is
 unfoldable pub noted : {A : Type 0} → ℕ → ℕ → List Rank → Lease → (ℕ → List Rank → A) → A → A
 noted places kept ranks x carry a = cond (ltb places kept) a (carry (min (kept + 1) places) (inserted places kept (rankOf x) ranks))
 
