@@ -10,7 +10,8 @@ use lib.Seq.{length-take-le}
 use borrow.Author.Tests.{ltb-true, ltb-false, lt-ltb, le-ltb}
 use Rattle.octets.proofs.BoolLaws.{and-left, and-right, or-left, or-right}
 use Rattle.serverlist.specs.Entries.{keep, oneOf}
-use Rattle.serverlist.specs.Servers.{servers, blank}
+use Rattle.clock.specs.declared.Moment.{Moment}
+use Rattle.serverlist.specs.Servers.{servers, blank, expires}
 use Rattle.serverlist.specs.Places.{place, earlierOf, evictPlace}
 use Rattle.serverlist.specs.declared.Server.{Server}
 use Rattle.serverlist.specs.declared.eviction.Candidate.{Candidate}
@@ -119,17 +120,17 @@ module _ (l : List Server) where
   -- the candidate among the entries from place i on
   pub record Foremost (i : ℕ) (c : Candidate) : Type 0 where
     pub place : c .at ≡ i + evictPlace servers (drop i l)
-    pub expiry : c .expiry ≡ getD l (c .at) blank .expiry
+    pub expiry : c .expiry ≡ expires (getD l (c .at) blank)
 
-  pub foremost-last : (i : ℕ) (e : Server) → length l ≡ i + 1 → e ≡ getD l i blank → Foremost i (record { at = i; expiry = e .expiry })
-  foremost-last i e h q = record { place = omega (arith, evict-last servers ordered l blank i h); expiry = ap (λ (s : Server). s .expiry) q }
+  pub foremost-last : (i : ℕ) (x : Moment) (e : Server) → length l ≡ i + 1 → e ≡ getD l i blank → x ≡ expires e → Foremost i (record { at = i; expiry = x })
+  foremost-last i x e h q y = record { place = omega (arith, evict-last servers ordered l blank i h); expiry = y ∙ ap expires q }
 
   pub foremost-more : (i : ℕ) {c : Candidate} (e : Server) → 0 < i → i < length l → e ≡ getD l (i - 1) blank → Foremost i c → Foremost (i - 1) (earlierOf c e (i - 1))
-  foremost-more i {c} e p h q f = go (leb (c .expiry .0) (e .expiry .0)) refl
+  foremost-more i {c} e p h q f = go (leb (c .expiry .0) (expires e .0)) refl
     where
-      told : (b : Bool) → leb (c .expiry .0) (e .expiry .0) ≡ b → servers .noLater (getD l (c .at) blank) (getD l (i - 1) blank) ≡ b
+      told : (b : Bool) → leb (c .expiry .0) (expires e .0) ≡ b → servers .noLater (getD l (c .at) blank) (getD l (i - 1) blank) ≡ b
       told b t = rw (← f .expiry, ← q) t
 
-      go : (b : Bool) → leb (c .expiry .0) (e .expiry .0) ≡ b → Foremost (i - 1) (cond b c (record { at = i - 1; expiry = e .expiry }))
+      go : (b : Bool) → leb (c .expiry .0) (expires e .0) ≡ b → Foremost (i - 1) (cond b c (record { at = i - 1; expiry = expires e }))
       go true t = record { place = evict-keep servers ordered l blank i (c .at) p h (f .place) (told true t); expiry = f .expiry }
-      go false t = record { place = evict-take servers ordered l blank i (c .at) p h (f .place) (told false t); expiry = ap (λ (s : Server). s .expiry) q }
+      go false t = record { place = evict-take servers ordered l blank i (c .at) p h (f .place) (told false t); expiry = ap expires q }

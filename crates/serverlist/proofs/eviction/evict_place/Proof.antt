@@ -22,7 +22,7 @@ foremost-1 : (c : tie.After-earlier) → Foremost (c .before .before .before .be
 foremost-1 c =
     let s = c .before .before .before .before in
     rw (c .earlier .ensures)
-    (foremost-more (s .args .t1 .entries) 7 _ (omega arith) (omega (arith, eight s)) (at-place (s .args .t1) 6 _ (eight s) (omega arith)) (foremost-last (s .args .t1 .entries) 7 _ (omega (arith, eight s)) (at-place (s .args .t1) 7 _ (eight s) (omega arith))))
+    (foremost-more (s .args .t1 .entries) 7 _ (omega arith) (omega (arith, eight s)) (at-place (s .args .t1) 6 _ (eight s) (omega arith)) (foremost-last (s .args .t1 .entries) 7 _ _ (omega (arith, eight s)) (at-place (s .args .t1) 7 _ (eight s) (omega arith)) (c .before .before .expiry-of .ensures)))
 
 foremost-2 : (c : tie.After-earlier2) → Foremost (c .before .before .before .before .before .before .args .t1 .entries) 5 (c .earlier2 .result)
 foremost-2 c =
@@ -60,8 +60,11 @@ foremost-7 c =
     rw (c .earlier7 .ensures)
     (foremost-more (s .args .t1 .entries) 1 _ (omega arith) (omega (arith, eight s)) (at-place (s .args .t1) 0 _ (eight s) (omega arith)) (foremost-6 (c .before .before)))
 
-element-copy-out-last : tie.Need-element-copy-out-last
-element-copy-out-last c = search needs
+element-copy-out-expiry-of : tie.Need-element-copy-out-expiry-of
+element-copy-out-expiry-of c = search needs
+
+expiry-of-requires : tie.Need-expiry-of-requires
+expiry-of-requires c κs = search needs
 
 element-copy-out-earlier : tie.Need-element-copy-out-earlier
 element-copy-out-earlier c = search needs
@@ -112,7 +115,8 @@ pub evict-place-spec : {M : Type 1} → statement M
 evict-place-spec =
     tie.close
     (tie.spec
-    element-copy-out-last
+    element-copy-out-expiry-of
+    expiry-of-requires
     element-copy-out-earlier
     earlier-requires
     element-copy-out-earlier-2
