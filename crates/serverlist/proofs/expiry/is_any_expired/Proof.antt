@@ -1,7 +1,7 @@
-use Prim.Native.Nat.{_≤_}
+use Prim.Native.Nat.{ℕ}
 use mathlib.Core.Path.{_∙_, sym}
 use native.Mathlib.Omega.{arith}
-use lib.ListN.{length, length-map}
+use lib.ListN.{length-map}
 use mathlib.Core.Bool.{Bool}
 use Rattle.clock.specs.Clock.{isPast}
 use Rattle.clock.specs.declared.Moment.{Moment}
@@ -13,155 +13,76 @@ use borrow.Author.Needs.{needs}
 use Rattle.serverlist.proofs.expiry.is_any_expired.Statement.{statement}
 use Rattle.serverlist.proofs.expiry.is_any_expired.Tie as tie
 
-room : (c : tie.After-is-held-expired) → c .before .before .args .t1 .count ≤ length (c .before .before .args .t1 .entries)
-room c =
-    let s = c .before .before in
-    omega (arith, s .pre, simp length-map at (s .good .0 .1 .1 .0 .1 .0 .1))
-
 abbrev expired : Moment → Server → Bool
 expired clock e = isPast (expires e) clock
 
-missed-1 : (c : tie.Else1) →
-    let a = c .before .before .before .args in
-    Missed (expired (a .clock)) (a .t1 .entries) (a .t1 .count) (place (expired (a .clock)) (held (a .t1))) 1
-missed-1 c = miss _ _ _ _ (room (c .before)) 0 _ (missed-none _ _ _) (sym (c .before .is-held-expired .ensures) ∙ c .if1 .left)
+-- the first i places were looked at
+abbrev Seen : tie.Start → ℕ → Type 0
+Seen s i =
+    let a = s .args in
+    Missed (expired (a .clock)) (a .t1 .entries) (a .t1 .count) (place (expired (a .clock)) (held (a .t1))) i
 
-missed-2 : (c : tie.Else2) →
-    let a = c .before .before .before .before .before .before .args in
-    Missed (expired (a .clock)) (a .t1 .entries) (a .t1 .count) (place (expired (a .clock)) (held (a .t1))) 2
-missed-2 c = miss _ _ _ _ (room (c .before .before .before .before)) 1 _ (missed-1 (c .before .before .before)) (sym (c .before .is-held-expired2 .ensures) ∙ c .if2 .left)
+seen-0 : (s : tie.Start) → Seen s 0
+seen-0 s = missed-none (omega (arith, s .pre, simp length-map at (s .good .0 .1 .1 .0 .1 .0 .1)))
 
-missed-3 : (c : tie.Else3) →
-    let a = c .before .before .before .before .before .before .before .before .before .args in
-    Missed (expired (a .clock)) (a .t1 .entries) (a .t1 .count) (place (expired (a .clock)) (held (a .t1))) 3
-missed-3 c = miss _ _ _ _ (room (c .before .before .before .before .before .before .before)) 2 _ (missed-2 (c .before .before .before)) (sym (c .before .is-held-expired3 .ensures) ∙ c .if3 .left)
+abbrev start-1 : tie.Else1 → tie.Start
+start-1 c = c .before .before .before
 
-missed-4 : (c : tie.Else4) →
-    let a = c .before .before .before .before .before .before .before .before .before .before .before .before .args in
-    Missed (expired (a .clock)) (a .t1 .entries) (a .t1 .count) (place (expired (a .clock)) (held (a .t1))) 4
-missed-4 c = miss _ _ _ _ (room (c .before .before .before .before .before .before .before .before .before .before)) 3 _ (missed-3 (c .before .before .before)) (sym (c .before .is-held-expired4 .ensures) ∙ c .if4 .left)
+seen-1 : (c : tie.Else1) → Seen (start-1 c) 1
+seen-1 c = miss 0 _ (seen-0 (c .before .before .before)) (sym (c .before .is-held-expired .ensures) ∙ c .if1 .left)
 
-missed-5 : (c : tie.Else5) →
-    let a = c .before .before .before .before .before .before .before .before .before .before .before .before .before .before .before .args in
-    Missed (expired (a .clock)) (a .t1 .entries) (a .t1 .count) (place (expired (a .clock)) (held (a .t1))) 5
-missed-5 c = miss _ _ _ _ (room (c .before .before .before .before .before .before .before .before .before .before .before .before .before)) 4 _ (missed-4 (c .before .before .before)) (sym (c .before .is-held-expired5 .ensures) ∙ c .if5 .left)
+abbrev start-2 : tie.Else2 → tie.Start
+start-2 c = start-1 (c .before .before .before)
 
-missed-6 : (c : tie.Else6) →
-    let a = c .before .before .before .before .before .before .before .before .before .before .before .before .before .before .before .before .before .before .args in
-    Missed (expired (a .clock)) (a .t1 .entries) (a .t1 .count) (place (expired (a .clock)) (held (a .t1))) 6
-missed-6 c = miss _ _ _ _ (room (c .before .before .before .before .before .before .before .before .before .before .before .before .before .before .before .before)) 5 _ (missed-5 (c .before .before .before)) (sym (c .before .is-held-expired6 .ensures) ∙ c .if6 .left)
+seen-2 : (c : tie.Else2) → Seen (start-2 c) 2
+seen-2 c = miss 1 _ (seen-1 (c .before .before .before)) (sym (c .before .is-held-expired2 .ensures) ∙ c .if2 .left)
 
-missed-7 : (c : tie.Else7) →
-    let a = c .before .before .before .before .before .before .before .before .before .before .before .before .before .before .before .before .before .before .before .before .before .args in
-    Missed (expired (a .clock)) (a .t1 .entries) (a .t1 .count) (place (expired (a .clock)) (held (a .t1))) 7
-missed-7 c = miss _ _ _ _ (room (c .before .before .before .before .before .before .before .before .before .before .before .before .before .before .before .before .before .before .before)) 6 _ (missed-6 (c .before .before .before)) (sym (c .before .is-held-expired7 .ensures) ∙ c .if7 .left)
+abbrev start-3 : tie.Else3 → tie.Start
+start-3 c = start-2 (c .before .before .before)
 
-missed-8 : (c : tie.Else8) →
-    let a = c .before .before .before .before .before .before .before .before .before .before .before .before .before .before .before .before .before .before .before .before .before .before .before .before .args in
-    Missed (expired (a .clock)) (a .t1 .entries) (a .t1 .count) (place (expired (a .clock)) (held (a .t1))) 8
-missed-8 c = miss _ _ _ _ (room (c .before .before .before .before .before .before .before .before .before .before .before .before .before .before .before .before .before .before .before .before .before .before)) 7 _ (missed-7 (c .before .before .before)) (sym (c .before .is-held-expired8 .ensures) ∙ c .if8 .left)
+seen-3 : (c : tie.Else3) → Seen (start-3 c) 3
+seen-3 c = miss 2 _ (seen-2 (c .before .before .before)) (sym (c .before .is-held-expired3 .ensures) ∙ c .if3 .left)
 
-element-copy-out-is-held-expired : tie.Need-element-copy-out-is-held-expired
-element-copy-out-is-held-expired c = search needs
+abbrev start-4 : tie.Else4 → tie.Start
+start-4 c = start-3 (c .before .before .before)
 
-is-held-expired-requires : tie.Need-is-held-expired-requires
-is-held-expired-requires c κs = search needs
+seen-4 : (c : tie.Else4) → Seen (start-4 c) 4
+seen-4 c = miss 3 _ (seen-3 (c .before .before .before)) (sym (c .before .is-held-expired4 .ensures) ∙ c .if4 .left)
 
-returns : tie.Need-returns
-returns c = hit-one _ _ _ (room (c .before)) 0 _ (missed-none _ _ _) (sym (c .before .is-held-expired .ensures) ∙ c .if1 .taken)
+abbrev start-5 : tie.Else5 → tie.Start
+start-5 c = start-4 (c .before .before .before)
 
-element-copy-out-is-held-expired-2 : tie.Need-element-copy-out-is-held-expired-2
-element-copy-out-is-held-expired-2 c = search needs
+seen-5 : (c : tie.Else5) → Seen (start-5 c) 5
+seen-5 c = miss 4 _ (seen-4 (c .before .before .before)) (sym (c .before .is-held-expired5 .ensures) ∙ c .if5 .left)
 
-is-held-expired-requires-2 : tie.Need-is-held-expired-requires-2
-is-held-expired-requires-2 c κs = search needs
+abbrev start-6 : tie.Else6 → tie.Start
+start-6 c = start-5 (c .before .before .before)
 
-returns-2 : tie.Need-returns-2
-returns-2 c = hit-one _ _ _ (room (c .before .before .before .before)) 1 _ (missed-1 (c .before .before .before)) (sym (c .before .is-held-expired2 .ensures) ∙ c .if2 .taken)
+seen-6 : (c : tie.Else6) → Seen (start-6 c) 6
+seen-6 c = miss 5 _ (seen-5 (c .before .before .before)) (sym (c .before .is-held-expired6 .ensures) ∙ c .if6 .left)
 
-element-copy-out-is-held-expired-3 : tie.Need-element-copy-out-is-held-expired-3
-element-copy-out-is-held-expired-3 c = search needs
+abbrev start-7 : tie.Else7 → tie.Start
+start-7 c = start-6 (c .before .before .before)
 
-is-held-expired-requires-3 : tie.Need-is-held-expired-requires-3
-is-held-expired-requires-3 c κs = search needs
+seen-7 : (c : tie.Else7) → Seen (start-7 c) 7
+seen-7 c = miss 6 _ (seen-6 (c .before .before .before)) (sym (c .before .is-held-expired7 .ensures) ∙ c .if7 .left)
 
-returns-3 : tie.Need-returns-3
-returns-3 c = hit-one _ _ _ (room (c .before .before .before .before .before .before .before)) 2 _ (missed-2 (c .before .before .before)) (sym (c .before .is-held-expired3 .ensures) ∙ c .if3 .taken)
+abbrev start-8 : tie.Else8 → tie.Start
+start-8 c = start-7 (c .before .before .before)
 
-element-copy-out-is-held-expired-4 : tie.Need-element-copy-out-is-held-expired-4
-element-copy-out-is-held-expired-4 c = search needs
-
-is-held-expired-requires-4 : tie.Need-is-held-expired-requires-4
-is-held-expired-requires-4 c κs = search needs
-
-returns-4 : tie.Need-returns-4
-returns-4 c = hit-one _ _ _ (room (c .before .before .before .before .before .before .before .before .before .before)) 3 _ (missed-3 (c .before .before .before)) (sym (c .before .is-held-expired4 .ensures) ∙ c .if4 .taken)
-
-element-copy-out-is-held-expired-5 : tie.Need-element-copy-out-is-held-expired-5
-element-copy-out-is-held-expired-5 c = search needs
-
-is-held-expired-requires-5 : tie.Need-is-held-expired-requires-5
-is-held-expired-requires-5 c κs = search needs
-
-returns-5 : tie.Need-returns-5
-returns-5 c = hit-one _ _ _ (room (c .before .before .before .before .before .before .before .before .before .before .before .before .before)) 4 _ (missed-4 (c .before .before .before)) (sym (c .before .is-held-expired5 .ensures) ∙ c .if5 .taken)
-
-element-copy-out-is-held-expired-6 : tie.Need-element-copy-out-is-held-expired-6
-element-copy-out-is-held-expired-6 c = search needs
-
-is-held-expired-requires-6 : tie.Need-is-held-expired-requires-6
-is-held-expired-requires-6 c κs = search needs
-
-returns-6 : tie.Need-returns-6
-returns-6 c = hit-one _ _ _ (room (c .before .before .before .before .before .before .before .before .before .before .before .before .before .before .before .before)) 5 _ (missed-5 (c .before .before .before)) (sym (c .before .is-held-expired6 .ensures) ∙ c .if6 .taken)
-
-element-copy-out-is-held-expired-7 : tie.Need-element-copy-out-is-held-expired-7
-element-copy-out-is-held-expired-7 c = search needs
-
-is-held-expired-requires-7 : tie.Need-is-held-expired-requires-7
-is-held-expired-requires-7 c κs = search needs
-
-returns-7 : tie.Need-returns-7
-returns-7 c = hit-one _ _ _ (room (c .before .before .before .before .before .before .before .before .before .before .before .before .before .before .before .before .before .before .before)) 6 _ (missed-6 (c .before .before .before)) (sym (c .before .is-held-expired7 .ensures) ∙ c .if7 .taken)
-
-element-copy-out-is-held-expired-8 : tie.Need-element-copy-out-is-held-expired-8
-element-copy-out-is-held-expired-8 c = search needs
-
-is-held-expired-requires-8 : tie.Need-is-held-expired-requires-8
-is-held-expired-requires-8 c κs = search needs
-
-returns-8 : tie.Need-returns-8
-returns-8 c = hit-one _ _ _ (room (c .before .before .before .before .before .before .before .before .before .before .before .before .before .before .before .before .before .before .before .before .before .before)) 7 _ (missed-7 (c .before .before .before)) (sym (c .before .is-held-expired8 .ensures) ∙ c .if8 .taken)
-
-returns-9 : tie.Need-returns-9
-returns-9 c = missed-each _ _ _ (room (c .before .before .before .before .before .before .before .before .before .before .before .before .before .before .before .before .before .before .before .before .before .before)) 8 (c .before .before .before .before .before .before .before .before .before .before .before .before .before .before .before .before .before .before .before .before .before .before .before .before .pre) (missed-8 c)
+seen-8 : (c : tie.Else8) → Seen (start-8 c) 8
+seen-8 c = miss 7 _ (seen-7 (c .before .before .before)) (sym (c .before .is-held-expired8 .ensures) ∙ c .if8 .left)
 
 pub is-any-expired-spec : {M : Type 1} → statement M
 is-any-expired-spec =
     tie.close
     (tie.spec
-    element-copy-out-is-held-expired
-    is-held-expired-requires
-    returns
-    element-copy-out-is-held-expired-2
-    is-held-expired-requires-2
-    returns-2
-    element-copy-out-is-held-expired-3
-    is-held-expired-requires-3
-    returns-3
-    element-copy-out-is-held-expired-4
-    is-held-expired-requires-4
-    returns-4
-    element-copy-out-is-held-expired-5
-    is-held-expired-requires-5
-    returns-5
-    element-copy-out-is-held-expired-6
-    is-held-expired-requires-6
-    returns-6
-    element-copy-out-is-held-expired-7
-    is-held-expired-requires-7
-    returns-7
-    element-copy-out-is-held-expired-8
-    is-held-expired-requires-8
-    returns-8
-    returns-9)
+    (λ c. search needs) (λ c κs. search needs) (λ c. hit-one 0 _ (seen-0 (c .before .before .before)) (sym (c .before .is-held-expired .ensures) ∙ c .if1 .taken))
+    (λ c. search needs) (λ c κs. search needs) (λ c. hit-one 1 _ (seen-1 (c .before .before .before)) (sym (c .before .is-held-expired2 .ensures) ∙ c .if2 .taken))
+    (λ c. search needs) (λ c κs. search needs) (λ c. hit-one 2 _ (seen-2 (c .before .before .before)) (sym (c .before .is-held-expired3 .ensures) ∙ c .if3 .taken))
+    (λ c. search needs) (λ c κs. search needs) (λ c. hit-one 3 _ (seen-3 (c .before .before .before)) (sym (c .before .is-held-expired4 .ensures) ∙ c .if4 .taken))
+    (λ c. search needs) (λ c κs. search needs) (λ c. hit-one 4 _ (seen-4 (c .before .before .before)) (sym (c .before .is-held-expired5 .ensures) ∙ c .if5 .taken))
+    (λ c. search needs) (λ c κs. search needs) (λ c. hit-one 5 _ (seen-5 (c .before .before .before)) (sym (c .before .is-held-expired6 .ensures) ∙ c .if6 .taken))
+    (λ c. search needs) (λ c κs. search needs) (λ c. hit-one 6 _ (seen-6 (c .before .before .before)) (sym (c .before .is-held-expired7 .ensures) ∙ c .if7 .taken))
+    (λ c. search needs) (λ c κs. search needs) (λ c. hit-one 7 _ (seen-7 (c .before .before .before)) (sym (c .before .is-held-expired8 .ensures) ∙ c .if8 .taken))
+    (λ c. missed-each 8 (start-8 c .pre) (seen-8 c)))

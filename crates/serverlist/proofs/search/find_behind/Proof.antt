@@ -1,7 +1,7 @@
-use Prim.Native.Nat.{_+_, _≤_, min}
+use Prim.Native.Nat.{ℕ, _+_, min}
 use mathlib.Core.Path.{_∙_, sym}
 use native.Mathlib.Omega.{arith}
-use lib.ListN.{length, take, drop, length-map}
+use lib.ListN.{take, drop, length-map}
 use Rattle.serverlist.specs.Entries.{isAbout}
 use Rattle.serverlist.specs.Servers.{servers}
 use Rattle.serverlist.specs.Places.{place}
@@ -10,84 +10,45 @@ use borrow.Author.Needs.{needs}
 use Rattle.serverlist.proofs.search.find_behind.Statement.{statement}
 use Rattle.serverlist.proofs.search.find_behind.Tie as tie
 
-room : (c : tie.After-is-held-about) → c .before .before .args .n ≤ length (c .before .before .args .t1 .entries)
-room c =
-    let s = c .before .before in
-    omega (arith, s .pre, simp length-map at (s .good .0 .1 .1 .0 .1 .0 .1))
+-- the places from the fifth to the one before place i were looked at
+abbrev Seen : tie.Start → ℕ → Type 0
+Seen s i =
+    let a = s .args in
+    Missed (isAbout servers (a .a)) (a .t1 .entries) (a .n) (min 4 (a .n) + place (isAbout servers (a .a)) (drop 4 (take (a .n) (a .t1 .entries)))) i
 
-missed-1 : (c : tie.Else1) →
-    let a = c .before .before .before .args in
-    Missed (isAbout servers (a .a)) (a .t1 .entries) (a .n) (min 4 (a .n) + place (isAbout servers (a .a)) (drop 4 (take (a .n) (a .t1 .entries)))) 5
-missed-1 c = miss _ _ _ _ (room (c .before)) 4 _ (missed-behind _ _ _ 4) (sym (c .before .is-held-about .ensures) ∙ c .if1 .left)
+seen-0 : (s : tie.Start) → Seen s 4
+seen-0 s = missed-behind 4 (omega (arith, s .pre, simp length-map at (s .good .0 .1 .1 .0 .1 .0 .1)))
 
-missed-2 : (c : tie.Else2) →
-    let a = c .before .before .before .before .before .before .args in
-    Missed (isAbout servers (a .a)) (a .t1 .entries) (a .n) (min 4 (a .n) + place (isAbout servers (a .a)) (drop 4 (take (a .n) (a .t1 .entries)))) 6
-missed-2 c = miss _ _ _ _ (room (c .before .before .before .before)) 5 _ (missed-1 (c .before .before .before)) (sym (c .before .is-held-about2 .ensures) ∙ c .if2 .left)
+abbrev start-1 : tie.Else1 → tie.Start
+start-1 c = c .before .before .before
 
-missed-3 : (c : tie.Else3) →
-    let a = c .before .before .before .before .before .before .before .before .before .args in
-    Missed (isAbout servers (a .a)) (a .t1 .entries) (a .n) (min 4 (a .n) + place (isAbout servers (a .a)) (drop 4 (take (a .n) (a .t1 .entries)))) 7
-missed-3 c = miss _ _ _ _ (room (c .before .before .before .before .before .before .before)) 6 _ (missed-2 (c .before .before .before)) (sym (c .before .is-held-about3 .ensures) ∙ c .if3 .left)
+seen-1 : (c : tie.Else1) → Seen (start-1 c) 5
+seen-1 c = miss 4 _ (seen-0 (c .before .before .before)) (sym (c .before .is-held-about .ensures) ∙ c .if1 .left)
 
-missed-4 : (c : tie.Else4) →
-    let a = c .before .before .before .before .before .before .before .before .before .before .before .before .args in
-    Missed (isAbout servers (a .a)) (a .t1 .entries) (a .n) (min 4 (a .n) + place (isAbout servers (a .a)) (drop 4 (take (a .n) (a .t1 .entries)))) 8
-missed-4 c = miss _ _ _ _ (room (c .before .before .before .before .before .before .before .before .before .before)) 7 _ (missed-3 (c .before .before .before)) (sym (c .before .is-held-about4 .ensures) ∙ c .if4 .left)
+abbrev start-2 : tie.Else2 → tie.Start
+start-2 c = start-1 (c .before .before .before)
 
-element-copy-out-is-held-about : tie.Need-element-copy-out-is-held-about
-element-copy-out-is-held-about c = search needs
+seen-2 : (c : tie.Else2) → Seen (start-2 c) 6
+seen-2 c = miss 5 _ (seen-1 (c .before .before .before)) (sym (c .before .is-held-about2 .ensures) ∙ c .if2 .left)
 
-is-held-about-requires : tie.Need-is-held-about-requires
-is-held-about-requires c κs = search needs
+abbrev start-3 : tie.Else3 → tie.Start
+start-3 c = start-2 (c .before .before .before)
 
-returns : tie.Need-returns
-returns c = hit _ _ _ _ (room (c .before)) 4 _ (missed-behind _ _ _ 4) (sym (c .before .is-held-about .ensures) ∙ c .if1 .taken)
+seen-3 : (c : tie.Else3) → Seen (start-3 c) 7
+seen-3 c = miss 6 _ (seen-2 (c .before .before .before)) (sym (c .before .is-held-about3 .ensures) ∙ c .if3 .left)
 
-element-copy-out-is-held-about-2 : tie.Need-element-copy-out-is-held-about-2
-element-copy-out-is-held-about-2 c = search needs
+abbrev start-4 : tie.Else4 → tie.Start
+start-4 c = start-3 (c .before .before .before)
 
-is-held-about-requires-2 : tie.Need-is-held-about-requires-2
-is-held-about-requires-2 c κs = search needs
-
-returns-2 : tie.Need-returns-2
-returns-2 c = hit _ _ _ _ (room (c .before .before .before .before)) 5 _ (missed-1 (c .before .before .before)) (sym (c .before .is-held-about2 .ensures) ∙ c .if2 .taken)
-
-element-copy-out-is-held-about-3 : tie.Need-element-copy-out-is-held-about-3
-element-copy-out-is-held-about-3 c = search needs
-
-is-held-about-requires-3 : tie.Need-is-held-about-requires-3
-is-held-about-requires-3 c κs = search needs
-
-returns-3 : tie.Need-returns-3
-returns-3 c = hit _ _ _ _ (room (c .before .before .before .before .before .before .before)) 6 _ (missed-2 (c .before .before .before)) (sym (c .before .is-held-about3 .ensures) ∙ c .if3 .taken)
-
-element-copy-out-is-held-about-4 : tie.Need-element-copy-out-is-held-about-4
-element-copy-out-is-held-about-4 c = search needs
-
-is-held-about-requires-4 : tie.Need-is-held-about-requires-4
-is-held-about-requires-4 c κs = search needs
-
-returns-4 : tie.Need-returns-4
-returns-4 c = hit _ _ _ _ (room (c .before .before .before .before .before .before .before .before .before .before)) 7 _ (missed-3 (c .before .before .before)) (sym (c .before .is-held-about4 .ensures) ∙ c .if4 .taken)
-
-returns-5 : tie.Need-returns-5
-returns-5 c = missed-all _ _ _ _ (room (c .before .before .before .before .before .before .before .before .before .before)) 8 (c .before .before .before .before .before .before .before .before .before .before .before .before .pre) (missed-4 c)
+seen-4 : (c : tie.Else4) → Seen (start-4 c) 8
+seen-4 c = miss 7 _ (seen-3 (c .before .before .before)) (sym (c .before .is-held-about4 .ensures) ∙ c .if4 .left)
 
 pub find-behind-spec : {M : Type 1} → statement M
 find-behind-spec =
     tie.close
     (tie.spec
-    element-copy-out-is-held-about
-    is-held-about-requires
-    returns
-    element-copy-out-is-held-about-2
-    is-held-about-requires-2
-    returns-2
-    element-copy-out-is-held-about-3
-    is-held-about-requires-3
-    returns-3
-    element-copy-out-is-held-about-4
-    is-held-about-requires-4
-    returns-4
-    returns-5)
+    (λ c. search needs) (λ c κs. search needs) (λ c. hit 4 _ (seen-0 (c .before .before .before)) (sym (c .before .is-held-about .ensures) ∙ c .if1 .taken))
+    (λ c. search needs) (λ c κs. search needs) (λ c. hit 5 _ (seen-1 (c .before .before .before)) (sym (c .before .is-held-about2 .ensures) ∙ c .if2 .taken))
+    (λ c. search needs) (λ c κs. search needs) (λ c. hit 6 _ (seen-2 (c .before .before .before)) (sym (c .before .is-held-about3 .ensures) ∙ c .if3 .taken))
+    (λ c. search needs) (λ c κs. search needs) (λ c. hit 7 _ (seen-3 (c .before .before .before)) (sym (c .before .is-held-about4 .ensures) ∙ c .if4 .taken))
+    (λ c. missed-all 8 (start-4 c .pre) (seen-4 c)))

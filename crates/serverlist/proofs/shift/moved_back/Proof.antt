@@ -18,35 +18,11 @@ abbrev μ-loop : tie.MeasureT-loop
 loop-holds : tie.Need-loop-holds Inv-loop μ-loop
 loop-holds c = (simp length-map at (c .good .0 .1 .1 .0 .1 .0 .1), refl, refl, omega arith, omega arith, refl)
 
-mul-next : tie.Need-mul-next Inv-loop μ-loop
-mul-next c = search needs
-
-element-copy-out-next : tie.Need-element-copy-out-next Inv-loop μ-loop
-element-copy-out-next c = search needs
-
-mul-carried : tie.Need-mul-carried Inv-loop μ-loop
-mul-carried c = search needs
-
-element-set-from-carried : tie.Need-element-set-from-carried Inv-loop μ-loop
-element-set-from-carried c = search needs
-
-add-i : tie.Need-add-i Inv-loop μ-loop
-add-i c = omega arith
-
-loop-less : tie.Need-loop-less Inv-loop μ-loop
-loop-less c = omega arith
-
 loop-again : tie.Need-loop-again Inv-loop μ-loop
 loop-again c =
     let l = c .before .before .loop in
     let h = l .inv in
     (simp length-set (h .0), h .1, h .2, omega arith, omega arith, back-more (l .m .entries) (l .i) (l .carried) _ (omega arith) ∙ h .5)
-
-mul-carried-2 : tie.Need-mul-carried-2 Inv-loop μ-loop
-mul-carried-2 c = search needs
-
-element-set-from-carried-2 : tie.Need-element-set-from-carried-2 Inv-loop μ-loop
-element-set-from-carried-2 c = search needs
 
 returns : tie.Need-returns Inv-loop μ-loop
 returns c =
@@ -62,17 +38,7 @@ returns c =
 pub moved-back-spec : {M : Type 1} → statement M
 moved-back-spec =
     tie.close
-    (tie.spec
-    Inv-loop
-    μ-loop
-    loop-holds
-    mul-next
-    element-copy-out-next
-    mul-carried
-    element-set-from-carried
-    add-i
-    loop-less
-    loop-again
-    mul-carried-2
-    element-set-from-carried-2
-    returns)
+    (tie.spec Inv-loop μ-loop loop-holds
+    (λ c. search needs) (λ c. search needs) (λ c. search needs) (λ c. search needs)
+    (λ c. omega arith) (λ c. omega arith) loop-again
+    (λ c. search needs) (λ c. search needs) returns)
