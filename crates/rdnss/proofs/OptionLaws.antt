@@ -1,5 +1,5 @@
 -- The laws of the server list while an option is applied. Assumes nothing.
-use mathlib.Core.Path.{_≡_, refl, ap, sym, _∙_}
+use mathlib.Core.Path.{_≡_, refl, ap, sym, _∙_, subst}
 use mathlib.Core.Bool.{false}
 use mathlib.Core.List.{List, [], _∷_}
 use Prim.Native.Nat.{ℕ, suc, _+_, _-_, _*_, _≤_, _<_}
@@ -12,21 +12,21 @@ use borrow.Author.Tests.{lt-ltb, le-ltb}
 use Rattle.clock.specs.declared.Moment.{Moment}
 use Rattle.serverlist.specs.Entries.{Marked, isAbout, isHeld, removed, evicted, roomed, inserted, marking, named}
 use Rattle.serverlist.specs.Servers.{servers, packed, held, blank}
-use Rattle.serverlist.specs.Places.{InPlaces, marked, place, insertAt, removeAt, replaceAt, evictPlace}
+use Rattle.serverlist.specs.Places.{InPlaces, marked, place, insertAt, removeAt, replaceAt, evictPlace, exchanged, insertedIn}
 use Rattle.serverlist.specs.declared.Address6.{Address6}
 use Rattle.serverlist.specs.declared.Server.{Server}
 use Rattle.serverlist.specs.declared.ServerList.{ServerList}
 use Rattle.serverlist.proofs.EntryLaws.{evict-lt}
 use Rattle.serverlist.proofs.PlaceLaws.{one-place, removed-length, inserted-length, replaced-length}
 use Rattle.serverlist.proofs.MarkLaws.{marked-length, one-marked, inserted-marked, renewed-marked, removed-at, removed-none, removed-le, renewed-at, evicted-own, evicted-other, roomed-yes, roomed-no, roomed-length, named-present, named-absent}
-use Rattle.serverlist.proofs.PackLaws.{of-clock, of-count, of-held, in-places, held-length}
+use Rattle.serverlist.proofs.PackLaws.{packed-held, of-clock, of-count, of-held, in-places, held-length, held-full, inserted-packed, exchanged-packed}
 use Rattle.serverlist.proofs.ServerLaws.{ordered}
 use Rattle.rdnss.specs.Area.{addressesFrom}
 use Rattle.rdnss.specs.Places.{Ready, Holds, marks}
 use Rattle.rdnss.specs.declared.option.Placed.{Placed}
 
 -- what a packed list holds, with its first n entries marked
-pub holding : (c : Moment) (d : List Server) (n : ℕ) {m : ServerList} (l : List (Marked Server)) → m ≡ packed c d → length d ≤ 8 → n ≤ length d → marked n d ≡ l → Holds c l (record { list = m; at = n })
+holding : (c : Moment) (d : List Server) (n : ℕ) {m : ServerList} (l : List (Marked Server)) → m ≡ packed c d → length d ≤ 8 → n ≤ length d → marked n d ≡ l → Holds c l (record { list = m; own = n })
 holding c d n l h b k e =
     record {
       ready = record { list = in-places c d h b; own = omega (arith, of-count c d h) };
@@ -35,74 +35,99 @@ holding c d n l h b k e =
     }
 
 module _ (p : Placed) (r : Ready p) where
-  pub marks-length : length (marks p) ≡ p .list .count
-  marks-length = marked-length (p .at) (held (p .list)) ∙ held-length (r .list)
+  marks-length : length (marks p) ≡ p .list .count
+  marks-length = marked-length (p .own) (held (p .list)) ∙ held-length (r .list)
 
-  pub room-left : p .list .count < 8 → Holds (p .list .clock) (roomed (marking servers) (marks p)) p
+  room-left : p .list .count < 8 → Holds (p .list .clock) (roomed (marking servers) (marks p)) p
   room-left h = record { ready = r; clocked = refl; holds = sym (roomed-yes (marking servers) (marks p) (omega (arith, marks-length))) }
-
-  pub evict-within : 0 < p .list .count → evictPlace servers (held (p .list)) < p .list .count
-  evict-within h = omega (arith, held-length (r .list), evict-lt servers ordered (held (p .list)) (omega (arith, held-length (r .list))))
-
-  module _ (k : ℕ) {m : ServerList} (full : 8 ≤ p .list .count) (e : k ≡ evictPlace servers (held (p .list))) (q : m ≡ packed (p .list .clock) (removeAt k (held (p .list)))) where
-    within : k < length (held (p .list))
-    within = omega (arith, held-length (r .list), evict-within (omega arith))
-
-    count : length (removeAt k (held (p .list))) + 1 ≡ length (held (p .list))
-    count = removed-length k (held (p .list)) within
-
-    evicting : roomed (marking servers) (marks p) ≡ evicted (marking servers) (marks p)
-    evicting = roomed-no (marking servers) (marks p) (omega (arith, marks-length))
-
-    pub own-evicted : k < p .at → Holds (p .list .clock) (roomed (marking servers) (marks p)) (record { list = m; at = p .at - 1 })
-    own-evicted h =
-        holding (p .list .clock) (removeAt k (held (p .list))) (p .at - 1) (roomed (marking servers) (marks p)) q
-        (omega (arith, count, held-length (r .list), r .list .within))
-        (omega (arith, count, held-length (r .list), r .own))
-        (ap (λ (n : ℕ). marked (p .at - 1) (removeAt n (held (p .list)))) e ∙ sym (evicted-own servers (p .at) (held (p .list)) (omega arith)) ∙ sym evicting)
-
-    pub other-evicted : p .at ≤ k → Holds (p .list .clock) (roomed (marking servers) (marks p)) (record { list = m; at = p .at })
-    other-evicted h =
-        holding (p .list .clock) (removeAt k (held (p .list))) (p .at) (roomed (marking servers) (marks p)) q
-        (omega (arith, count, held-length (r .list), r .list .within))
-        (omega (arith, count, within))
-        (ap (λ (n : ℕ). marked (p .at) (removeAt n (held (p .list)))) e ∙ sym (evicted-other servers (p .at) (held (p .list)) (omega arith)) ∙ sym evicting)
 
 -- room was made, and an entry is put in
 module _ (c : Moment) (p q : Placed) (r : Ready p) (h : Holds c (roomed (marking servers) (marks p)) q) where
-  pub room-made : q .list .count < 8
+  room-made : q .list .count < 8
   room-made =
       omega (arith, marks-length q (h .ready), ap length (h .holds), roomed-length (marking servers) (marks p) (omega (arith, marks-length p r, r .list .within)))
 
-  pub put-in : (a : Address6) (x : Moment) {m : ServerList} → m ≡ packed (q .list .clock) (insertAt (q .at) (servers .entry a x) (held (q .list)))
-      → Holds c (inserted (marking servers .entry a x) (roomed (marking servers) (marks p))) (record { list = m; at = q .at + 1 })
+  put-in : (a : Address6) (x : Moment) {m : ServerList} → m ≡ packed (q .list .clock) (insertAt (q .own) (servers .entry a x) (held (q .list)))
+      → Holds c (inserted (marking servers .entry a x) (roomed (marking servers) (marks p))) (record { list = m; own = q .own + 1 })
   put-in a x e =
-      let n : length (insertAt (q .at) (servers .entry a x) (held (q .list))) ≡ length (held (q .list)) + 1 = inserted-length (q .at) (servers .entry a x) (held (q .list)) (omega (arith, held-length (h .ready .list), h .ready .own)) in
-      holding c (insertAt (q .at) (servers .entry a x) (held (q .list))) (q .at + 1) (inserted (marking servers .entry a x) (roomed (marking servers) (marks p)))
-      (e ∙ ap (λ (t : Moment). packed t (insertAt (q .at) (servers .entry a x) (held (q .list)))) (h .clocked))
+      let n : length (insertAt (q .own) (servers .entry a x) (held (q .list))) ≡ length (held (q .list)) + 1 = inserted-length (q .own) (servers .entry a x) (held (q .list)) (omega (arith, held-length (h .ready .list), h .ready .own)) in
+      holding c (insertAt (q .own) (servers .entry a x) (held (q .list))) (q .own + 1) (inserted (marking servers .entry a x) (roomed (marking servers) (marks p)))
+      (e ∙ ap (λ (t : Moment). packed t (insertAt (q .own) (servers .entry a x) (held (q .list)))) (h .clocked))
       (omega (arith, n, held-length (h .ready .list), room-made))
       (omega (arith, n, held-length (h .ready .list), h .ready .own))
-      (ap (λ (k : ℕ). marked k (insertAt (q .at) (servers .entry a x) (held (q .list)))) (add-one (q .at))
-      ∙ sym (inserted-marked (servers .entry a x) (q .at) (held (q .list)) (omega (arith, held-length (h .ready .list), h .ready .own)))
+      (ap (λ (k : ℕ). marked k (insertAt (q .own) (servers .entry a x) (held (q .list)))) (add-one (q .own))
+      ∙ sym (inserted-marked (servers .entry a x) (q .own) (held (q .list)) (omega (arith, held-length (h .ready .list), h .ready .own)))
       ∙ ap (inserted (marking servers .entry a x)) (h .holds))
+
+-- an entry put in where there is room
+pub put-in-room : (p : Placed) (r : Ready p) (a : Address6) (x : Moment) {m : ServerList} → p .list .count < 8 → m ≡ insertedIn (p .own) (servers .entry a x) (p .list)
+    → Holds (p .list .clock) (inserted (marking servers .entry a x) (roomed (marking servers) (marks p))) (record { list = m; own = p .own + 1 })
+put-in-room p r a x h e = put-in (p .list .clock) p p r (room-left p r h) a x (e ∙ inserted-packed (r .list) (p .own) (servers .entry a x) h (r .own))
+
+-- an entry put in for the one that is evicted, at place k of a full list
+module _ (p : Placed) (r : Ready p) (k : ℕ) (full : 8 ≤ p .list .count) (e : k ≡ evictPlace servers (p .list .entries)) where
+  evicts : k ≡ evictPlace servers (held (p .list))
+  evicts = e ∙ ap (evictPlace servers) (held-full (r .list) full)
+
+  within : k < length (held (p .list))
+  within = omega (arith, evicts, held-length (r .list), evict-lt servers ordered (held (p .list)) (omega (arith, held-length (r .list))))
+
+  count : length (removeAt k (held (p .list))) + 1 ≡ length (held (p .list))
+  count = removed-length k (held (p .list)) within
+
+  -- the list without it, of which the first n are the option's own
+  abbrev rest : ℕ → Placed
+  rest n = record { list = packed (p .list .clock) (removeAt k (held (p .list))); own = n }
+
+  roomed-rest : (n : ℕ) → n ≤ length (removeAt k (held (p .list))) → marked n (removeAt k (held (p .list))) ≡ evicted (marking servers) (marks p)
+      → Holds (p .list .clock) (roomed (marking servers) (marks p)) (rest n)
+  roomed-rest n h q =
+      holding (p .list .clock) (removeAt k (held (p .list))) n (roomed (marking servers) (marks p)) refl
+      (omega (arith, count, held-length (r .list), r .list .within))
+      h
+      (q ∙ sym (roomed-no (marking servers) (marks p) (omega (arith, marks-length p r))))
+
+  put-for : (n : ℕ) (a : Address6) (x : Moment) {m : ServerList} → n < 8 → Holds (p .list .clock) (roomed (marking servers) (marks p)) (rest n)
+      → m ≡ exchanged k n (servers .entry a x) (p .list) → Holds (p .list .clock) (inserted (marking servers .entry a x) (roomed (marking servers) (marks p))) (record { list = m; own = n + 1 })
+  put-for n a x h g q =
+      let d = removeAt k (held (p .list)) in
+      put-in (p .list .clock) p (rest n) r g a x
+      (rw (of-clock {m = packed (p .list .clock) d} (p .list .clock) d refl, packed-held (p .list .clock) d)
+      (q ∙ exchanged-packed (r .list) k n (servers .entry a x) full (omega (arith, within, held-length (r .list), r .list .within)) h))
+
+  -- one of the option's own goes
+  pub put-for-own : (a : Address6) (x : Moment) {m : ServerList} → k < p .own → m ≡ exchanged k (p .own - 1) (servers .entry a x) (p .list)
+      → Holds (p .list .clock) (inserted (marking servers .entry a x) (roomed (marking servers) (marks p))) (record { list = m; own = p .own })
+  put-for-own a x {m} h q =
+      let n : p .own - 1 + 1 ≡ p .own = omega arith in
+      let g = ap (λ (i : ℕ). marked (p .own - 1) (removeAt i (held (p .list)))) evicts ∙ sym (evicted-own servers (p .own) (held (p .list)) (omega (arith, evicts))) in
+      subst (λ (j : ℕ). Holds (p .list .clock) (inserted (marking servers .entry a x) (roomed (marking servers) (marks p))) (record { list = m; own = j })) n
+      (put-for (p .own - 1) a x (omega (arith, r .own, r .list .within)) (roomed-rest (p .own - 1) (omega (arith, count, held-length (r .list), r .own)) g) q)
+
+  -- or another
+  pub put-for-other : (a : Address6) (x : Moment) {m : ServerList} → p .own ≤ k → m ≡ exchanged k (p .own) (servers .entry a x) (p .list)
+      → Holds (p .list .clock) (inserted (marking servers .entry a x) (roomed (marking servers) (marks p))) (record { list = m; own = p .own + 1 })
+  put-for-other a x h q =
+      let g = ap (λ (i : ℕ). marked (p .own) (removeAt i (held (p .list)))) evicts ∙ sym (evicted-other servers (p .own) (held (p .list)) (omega (arith, evicts))) in
+      put-for (p .own) a x (omega (arith, within, held-length (r .list), r .list .within)) (roomed-rest (p .own) (omega (arith, count, within)) g) q
 
 -- an address that was looked for
 module _ (p : Placed) (r : Ready p) (a : Address6) (x : Moment) (k : ℕ) (e : k ≡ place (isAbout servers a) (held (p .list))) where
   is-held : isHeld (marking servers) a (marks p) ≡ ltb (place (isAbout servers a) (held (p .list))) (length (held (p .list)))
-  is-held = one-marked (isAbout servers a) (p .at) (held (p .list)) ∙ one-place (isAbout servers a) (held (p .list))
+  is-held = one-marked (isAbout servers a) (p .own) (held (p .list)) ∙ one-place (isAbout servers a) (held (p .list))
 
   pub found : {m : ServerList} → k < p .list .count → m ≡ packed (p .list .clock) (replaceAt k (servers .renew x (getD (held (p .list)) k blank)) (held (p .list)))
-      → Holds (p .list .clock) (named servers false x (marks p) a) (record { list = m; at = p .at })
+      → Holds (p .list .clock) (named servers false x (marks p) a) (record { list = m; own = p .own })
   found h q =
       let w : place (isAbout servers a) (held (p .list)) < length (held (p .list)) = omega (arith, e, held-length (r .list)) in
       let d = replaceAt k (servers .renew x (getD (held (p .list)) k blank)) (held (p .list)) in
       let n : length d ≡ length (held (p .list)) = replaced-length k (servers .renew x (getD (held (p .list)) k blank)) (held (p .list)) (omega (arith, held-length (r .list))) in
-      holding (p .list .clock) d (p .at) (named servers false x (marks p) a) q
+      holding (p .list .clock) d (p .own) (named servers false x (marks p) a) q
       (omega (arith, n, held-length (r .list), r .list .within))
       (omega (arith, n, held-length (r .list), r .own))
-      (ap (λ (j : ℕ). marked (p .at) (replaceAt j (servers .renew x (getD (held (p .list)) j blank)) (held (p .list)))) e
-      ∙ ap (marked (p .at)) (sym (renewed-at servers a x blank (held (p .list)) w))
-      ∙ sym (renewed-marked servers a x (p .at) (held (p .list)))
+      (ap (λ (j : ℕ). marked (p .own) (replaceAt j (servers .renew x (getD (held (p .list)) j blank)) (held (p .list)))) e
+      ∙ ap (marked (p .own)) (sym (renewed-at servers a x blank (held (p .list)) w))
+      ∙ sym (renewed-marked servers a x (p .own) (held (p .list)))
       ∙ sym (named-present servers x a (marks p) (is-held ∙ lt-ltb _ _ w)))
 
   pub missing : {q : Placed} → p .list .count ≤ k → Holds (p .list .clock) (inserted (marking servers .entry a x) (roomed (marking servers) (marks p))) q

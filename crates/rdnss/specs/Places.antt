@@ -15,11 +15,11 @@ use Rattle.rdnss.specs.declared.option.Placed.{Placed}
 
 -- The entries and the marks of a list in places while an option is applied.
 abbrev pub marks : Placed → List (Marked Server)
-marks p = marked (p .at) (held (p .list))
+marks p = marked (p .own) (held (p .list))
 
 pub record Ready (p : Placed) : Type 0 where
   pub list : InPlaces (p .list)
-  pub own : p .at ≤ p .list .count
+  pub own : p .own ≤ p .list .count
 
 -- p holds these entries with these marks, at this clock.
 pub record Holds (clock : Moment) (l : List (Marked Server)) (p : Placed) : Type 0 where

@@ -1,6 +1,5 @@
 // The server list call: the options of a router's area, applied to the DNS server list of RFC 5006.
 pub mod area;
-pub mod list;
 pub mod option;
 
 use clock::Moment;

@@ -1,11 +1,12 @@
 // One option of the area, applied to the list.
-use crate::list;
 use clock::Moment;
 use clock::Span;
 use serverlist::Address6;
-use serverlist::Server;
 use serverlist::ServerList;
+use serverlist::entry;
 use serverlist::eviction;
+use serverlist::search;
+use serverlist::shift;
 ghost use mathlib.Core.Path.{_≡_};
 ghost use mathlib.Core.Bool.{false};
 ghost use mathlib.Core.List.{foldl};
@@ -24,40 +25,37 @@ const TYPE: u8 = 25;
 // How many of its addresses count.
 const COUNTED: usize = 3;
 
-// A list while an option is applied, and how many of its first entries this option inserted.
+// A list while an option is applied, and how many of its first entries are the option's own: those
+// which it inserted.
 pub(crate) struct Placed {
     pub list: ServerList,
-    pub at: usize,
+    pub own: usize,
 }
 
-// A new entry, behind those which this option inserted. A full list gives one up for it.
+// A new entry, behind the option's own. A full list gives one up for it, which may be one of these.
 fn insert(p: Placed, a: Address6, x: Moment) -> Placed
     requires { ⌜ Ready p ⌝ }
     ensures { λ r. ⌜ Holds (p .list .clock) (inserted (marking servers .entry a x) (roomed (marking servers) (marks p))) r ⌝ }
 {
     let l = p.list;
-    let at = p.at;
-    let e = Server {
-        address: a,
-        expiry: x,
-    };
+    let own = p.own;
+    let e = entry::about(a, x);
     if l.count < serverlist::PLACES {
-        let m = list::insert_at(l, at, e);
+        let m = shift::insert(l, own, e);
         return Placed {
             list: m,
-            at: at + 1,
+            own: own + 1,
         };
     }
     let k = eviction::evict_place(l);
-    if k < at {
-        let m = list::remove_at(l, k);
-        let n = list::insert_at(m, at - 1, e);
-        return Placed { list: n, at: at };
+    if k < own {
+        let m = shift::exchange(l, k, own - 1, e);
+        return Placed { list: m, own: own };
     }
-    let m = list::replace(l, at, k, e);
+    let m = shift::exchange(l, k, own, e);
     Placed {
         list: m,
-        at: at + 1,
+        own: own + 1,
     }
 }
 
@@ -85,9 +83,9 @@ fn withdraw_all(l: ServerList, v: &[u8], n: usize) -> ServerList
     while j < n {
         let a = address_at(v, 8 + 16 * j);
         j += 1;
-        let k = list::find(m, a);
+        let k = search::find(m, a);
         if k < m.count {
-            m = list::remove_at(m, k);
+            m = shift::remove(m, k);
         }
     }
     m
@@ -104,18 +102,14 @@ fn name_all(l: ServerList, v: &[u8], n: usize, x: Moment) -> ServerList
     while j < n {
         let a = address_at(v, 8 + 16 * j);
         j += 1;
-        let k = list::find(m, a);
+        let k = search::find(m, a);
         if k < m.count {
-            let e = m.entries[k];
-            let b = e.address;
-            m.entries[k] = Server {
-                address: b,
-                expiry: x,
-            };
+            let e = entry::renew(m.entries[k], x);
+            m.entries[k] = e;
         } else {
-            let p = insert(Placed { list: m, at: own }, a, x);
+            let p = insert(Placed { list: m, own: own }, a, x);
             m = p.list;
-            own = p.at;
+            own = p.own;
         }
     }
     m

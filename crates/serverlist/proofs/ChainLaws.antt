@@ -10,7 +10,8 @@ use lib.Seq.{length-take-le}
 use borrow.Author.Tests.{ltb-true, ltb-false, lt-ltb, le-ltb}
 use Rattle.octets.proofs.BoolLaws.{and-left, and-right, or-left, or-right}
 use Rattle.serverlist.specs.Entries.{keep, oneOf}
-use Rattle.serverlist.specs.Servers.{servers, blank}
+use Rattle.clock.specs.declared.Moment.{Moment}
+use Rattle.serverlist.specs.Servers.{servers, blank, expires}
 use Rattle.serverlist.specs.Places.{place, earlierOf, evictPlace}
 use Rattle.serverlist.specs.declared.Server.{Server}
 use Rattle.serverlist.specs.declared.eviction.Candidate.{Candidate}
@@ -22,43 +23,45 @@ module _ {E : Type 0} (p : E → Bool) (l : List E) (n t : ℕ) where
   -- t is its place, and none of the places before i holds it
   pub record Missed (i : ℕ) : Type 0 where
     pub rest : t ≡ min i n + place p (drop i (take n l))
+    pub room : n ≤ length l
 
-module _ {E : Type 0} (p : E → Bool) (l : List E) (n : ℕ) where
-  pub missed-none : Missed p l n (place p (take n l)) 0
-  missed-none = record { rest = omega arith }
+module _ {E : Type 0} {p : E → Bool} {l : List E} {n : ℕ} where
+  pub missed-none : n ≤ length l → Missed p l n (place p (take n l)) 0
+  missed-none k = record { rest = omega arith; room = k }
 
-  pub missed-behind : (i : ℕ) → Missed p l n (min i n + place p (drop i (take n l))) i
-  missed-behind i = record { rest = refl }
+  pub missed-behind : (i : ℕ) → n ≤ length l → Missed p l n (min i n + place p (drop i (take n l))) i
+  missed-behind i k = record { rest = refl; room = k }
 
-module _ {E : Type 0} (p : E → Bool) (l : List E) (n t : ℕ) (k : n ≤ length l) where
-  pub miss : (i : ℕ) (d : E) → Missed p l n t i → (ltb i n && p (getD l i d)) ≡ false → Missed p l n t (i + 1)
-  miss i d m f = go (ltb i n) refl f
+module _ {E : Type 0} {p : E → Bool} {l : List E} {n t : ℕ} (i : ℕ) where
+  pub miss : (d : E) → Missed p l n t i → (ltb i n && p (getD l i d)) ≡ false → Missed p l n t (i + 1)
+  miss d m f = go (ltb i n) refl f
     where
       go : (b : Bool) → ltb i n ≡ b → (b && p (getD l i d)) ≡ false → Missed p l n t (i + 1)
-      go true q f = record { rest = omega (arith, m .rest, ltb-true i n q, place-next p l n i d (ltb-true i n q) k f) }
+      go true q f = record { rest = omega (arith, m .rest, ltb-true i n q, place-next p l n i d (ltb-true i n q) (m .room) f); room = m .room }
       go false q f =
-          record { rest = omega (arith, m .rest, ltb-false i n q, place-end p l n i (ltb-false i n q) k, place-end p l n (i + 1) (omega (arith, ltb-false i n q)) k) }
+          let h = ltb-false i n q in
+          record { rest = omega (arith, m .rest, place-end p l n i h (m .room), place-end p l n (i + 1) (omega arith) (m .room)); room = m .room }
 
-  pub hit : (i : ℕ) (d : E) → Missed p l n t i → (ltb i n && p (getD l i d)) ≡ true → i ≡ t
-  hit i d m f =
+  pub hit : (d : E) → Missed p l n t i → (ltb i n && p (getD l i d)) ≡ true → i ≡ t
+  hit d m f =
       let h = ltb-true i n (and-left (ltb i n) (p (getD l i d)) f) in
-      omega (arith, m .rest, h, place-here p l n i d h k (and-right (ltb i n) (p (getD l i d)) f))
+      omega (arith, m .rest, h, place-here p l n i d h (m .room) (and-right (ltb i n) (p (getD l i d)) f))
 
-  pub missed-all : (i : ℕ) → n ≤ i → Missed p l n t i → n ≡ t
-  missed-all i h m = omega (arith, m .rest, place-end p l n i h k)
+  pub missed-all : n ≤ i → Missed p l n t i → n ≡ t
+  missed-all h m = omega (arith, m .rest, place-end p l n i h (m .room))
 
 -- Whether an entry passes a test.
-module _ {E : Type 0} (p : E → Bool) (l : List E) (n : ℕ) (k : n ≤ length l) where
-  pub hit-one : (i : ℕ) (d : E) → Missed p l n (place p (take n l)) i → (ltb i n && p (getD l i d)) ≡ true → true ≡ oneOf p (take n l)
-  hit-one i d m f =
-      let h = hit p l n (place p (take n l)) k i d m f in
+module _ {E : Type 0} {p : E → Bool} {l : List E} {n : ℕ} (i : ℕ) where
+  pub hit-one : (d : E) → Missed p l n (place p (take n l)) i → (ltb i n && p (getD l i d)) ≡ true → true ≡ oneOf p (take n l)
+  hit-one d m f =
+      let h = hit i d m f in
       let q = ltb-true i n (and-left (ltb i n) (p (getD l i d)) f) in
-      sym (one-place p (take n l) ∙ lt-ltb (place p (take n l)) (length (take n l)) (omega (arith, length-take-le n l k)))
+      sym (one-place p (take n l) ∙ lt-ltb (place p (take n l)) (length (take n l)) (omega (arith, length-take-le n l (m .room))))
 
-  pub missed-each : (i : ℕ) → n ≤ i → Missed p l n (place p (take n l)) i → false ≡ oneOf p (take n l)
-  missed-each i b m =
-      let h = missed-all p l n (place p (take n l)) k i b m in
-      sym (one-place p (take n l) ∙ le-ltb (place p (take n l)) (length (take n l)) (omega (arith, length-take-le n l k)))
+  pub missed-each : n ≤ i → Missed p l n (place p (take n l)) i → false ≡ oneOf p (take n l)
+  missed-each b m =
+      let h = missed-all i b m in
+      sym (one-place p (take n l) ∙ le-ltb (place p (take n l)) (length (take n l)) (omega (arith, length-take-le n l (m .room))))
 
 -- where none passes a test, keeping the others keeps all
 pub keep-all : {E : Type 0} (p : E → Bool) (l : List E) → oneOf p l ≡ false → keep (λ e. not (p e)) l ≡ l
@@ -119,17 +122,17 @@ module _ (l : List Server) where
   -- the candidate among the entries from place i on
   pub record Foremost (i : ℕ) (c : Candidate) : Type 0 where
     pub place : c .at ≡ i + evictPlace servers (drop i l)
-    pub expiry : c .expiry ≡ getD l (c .at) blank .expiry
+    pub expiry : c .expiry ≡ expires (getD l (c .at) blank)
 
-  pub foremost-last : (i : ℕ) (e : Server) → length l ≡ i + 1 → e ≡ getD l i blank → Foremost i (record { at = i; expiry = e .expiry })
-  foremost-last i e h q = record { place = omega (arith, evict-last servers ordered l blank i h); expiry = ap (λ (s : Server). s .expiry) q }
+  pub foremost-last : (i : ℕ) (x : Moment) (e : Server) → length l ≡ i + 1 → e ≡ getD l i blank → x ≡ expires e → Foremost i (record { at = i; expiry = x })
+  foremost-last i x e h q y = record { place = omega (arith, evict-last servers ordered l blank i h); expiry = y ∙ ap expires q }
 
   pub foremost-more : (i : ℕ) {c : Candidate} (e : Server) → 0 < i → i < length l → e ≡ getD l (i - 1) blank → Foremost i c → Foremost (i - 1) (earlierOf c e (i - 1))
-  foremost-more i {c} e p h q f = go (leb (c .expiry .0) (e .expiry .0)) refl
+  foremost-more i {c} e p h q f = go (leb (c .expiry .0) (expires e .0)) refl
     where
-      told : (b : Bool) → leb (c .expiry .0) (e .expiry .0) ≡ b → servers .noLater (getD l (c .at) blank) (getD l (i - 1) blank) ≡ b
+      told : (b : Bool) → leb (c .expiry .0) (expires e .0) ≡ b → servers .noLater (getD l (c .at) blank) (getD l (i - 1) blank) ≡ b
       told b t = rw (← f .expiry, ← q) t
 
-      go : (b : Bool) → leb (c .expiry .0) (e .expiry .0) ≡ b → Foremost (i - 1) (cond b c (record { at = i - 1; expiry = e .expiry }))
+      go : (b : Bool) → leb (c .expiry .0) (expires e .0) ≡ b → Foremost (i - 1) (cond b c (record { at = i - 1; expiry = expires e }))
       go true t = record { place = evict-keep servers ordered l blank i (c .at) p h (f .place) (told true t); expiry = f .expiry }
-      go false t = record { place = evict-take servers ordered l blank i (c .at) p h (f .place) (told false t); expiry = ap (λ (s : Server). s .expiry) q }
+      go false t = record { place = evict-take servers ordered l blank i (c .at) p h (f .place) (told false t); expiry = ap expires q }

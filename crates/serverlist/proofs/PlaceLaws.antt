@@ -2,13 +2,13 @@
 use mathlib.Core.Path.{_≡_, refl, ap, sym, _∙_}
 use mathlib.Core.Bool.{Bool, true, false, cond, _||_}
 use mathlib.Core.List.{List, [], _∷_, _++_, append-assoc, append-nil}
-use Prim.Native.Nat.{ℕ, zero, suc, _+_, _-_, _≤_, _<_}
+use Prim.Native.Nat.{ℕ, zero, suc, _+_, _-_, _≤_, _<_, min}
 use native.Mathlib.Numerals.{add-one}
 use native.Mathlib.Omega.{arith}
 use lib.Dec.{ltb, leb·suc-suc}
 use lib.ListN.{length, take, drop, getD, set, replicate, length-append, length-drop, drop-of-length-le}
-use lib.Seq.{set-append-seam, set-split, take-suc-set, drop-set-lt, drop-cons, drop-drop, drop-append-le, take-append-le, take-at, drop-at, length-take-le, getD-take, getD-drop, set-append-left, append-snoc}
-use borrow.Author.Tests.{lt-ltb, le-ltb}
+use lib.Seq.{set-append-seam, set-split, take-suc-set, drop-set-lt, drop-cons, take-all, take-at, drop-at, length-take-le, getD-take, getD-drop, set-append-left, append-snoc}
+use borrow.Author.Tests.{lt-ltb, le-ltb, ltb-true, ltb-false}
 use Rattle.serverlist.specs.Entries.{Kind, oneOf}
 use Rattle.serverlist.specs.Places.{place, insertAt, removeAt, replaceAt, evictPlace}
 use Rattle.serverlist.proofs.EntryLaws.{Ordered, one-evicts, one-nil}
@@ -24,6 +24,19 @@ module _ {E : Type 0} where
   take-short (suc n) [] = omega arith
   take-short (suc n) (x ∷ l) = omega (arith, take-short n l)
 
+  -- the first n of a list that has no more than m
+  pub take-within : (n m : ℕ) (l : List E) → length l ≤ m → take (min n m) l ≡ take n l
+  take-within n m l h = go (ltb n m) refl
+    where
+      go : (b : Bool) → ltb n m ≡ b → take (min n m) l ≡ take n l
+      go true q =
+          let e : min n m ≡ n = omega (arith, ltb-true n m q) in
+          rw e
+      go false q =
+          let k : m ≤ n = ltb-false n m q in
+          let e : min n m ≡ m = omega arith in
+          rw e (take-all m l h ∙ sym (take-all n l (omega arith)))
+
   pub removed-length : (k : ℕ) (l : List E) → k < length l → length (removeAt k l) + 1 ≡ length l
   removed-length k l h = omega (arith, length-append (take k l) (drop (suc k) l), length-take-le k l (omega arith), length-drop (suc k) l)
 
@@ -32,13 +45,6 @@ module _ {E : Type 0} where
 
   pub replaced-length : (k : ℕ) (e : E) (l : List E) → k < length l → length (replaceAt k e l) ≡ length l
   replaced-length k e l h = omega (arith, length-append (take k l) (e ∷ drop (suc k) l), length-take-le k l (omega arith), length-drop (suc k) l)
-
-  -- two ways to cut one list in the same place
-  same-front : (p q r s : List E) (n : ℕ) → length p ≡ n → length r ≡ n → p ++ q ≡ r ++ s → p ≡ r
-  same-front p q r s n h k e = sym (take-at p q n h) ∙ ap (take n) e ∙ take-at r s n k
-
-  same-back : (p q r s : List E) (n : ℕ) → length p ≡ n → length r ≡ n → p ++ q ≡ r ++ s → q ≡ s
-  same-back p q r s n h k e = sym (drop-at p q n h) ∙ ap (drop n) e ∙ drop-at r s n k
 
   -- a turn of the loop that moves entries up: m without its place i is always the list without its place k
   pub up-more : (m : List E) (i : ℕ) (d : E) → i + 1 < length m → removeAt (i + 1) (set m i (getD m (i + 1) d)) ≡ removeAt i m
@@ -68,9 +74,38 @@ module _ {E : Type 0} where
   set-out zero x (e ∷ l) h = refl
   set-out (suc n) x (e ∷ l) h = ap (λ (r : List E). e ∷ r) (set-out n x l (omega arith))
 
+  set-in : (n : ℕ) (x : E) (l : List E) → n < length l → set l n x ≡ insertAt n x (removeAt n l)
+  set-in n x [] h = absurd (omega arith)
+  set-in zero x (e ∷ l) h = refl
+  set-in (suc n) x (e ∷ l) h = ap (λ (r : List E). e ∷ r) (set-in n x l (omega arith))
+
+  -- the entries between the two places moved up, and the last of these places written
+  pub up-out : (l m : List E) (k n : ℕ) (x : E) → n < length m → removeAt n m ≡ removeAt k l → set m n x ≡ insertAt n x (removeAt k l)
+  up-out l m k n x h e = set-in n x m h ∙ ap (insertAt n x) e
+
   -- the entries between the two places moved back
   pub back-out : (l m : List E) (k n : ℕ) (carried x : E) → length m ≡ length l → k ≤ n → n < length l → insertAt n carried m ≡ insertAt k x l → set m n carried ≡ insertAt k x (removeAt n l)
   back-out l m k n carried x w h b e = sym (set-out n carried m (omega arith)) ∙ ap (removeAt (suc n)) e ∙ inserted-out k n x l h b
+
+  -- a list with more behind it
+  removed-ahead : (k : ℕ) (l r : List E) → k < length l → removeAt k (l ++ r) ≡ removeAt k l ++ r
+  removed-ahead k [] r h = absurd (omega arith)
+  removed-ahead zero (e ∷ l) r h = refl
+  removed-ahead (suc k) (e ∷ l) r h = ap (λ (t : List E). e ∷ t) (removed-ahead k l r (omega arith))
+
+  inserted-ahead : (k : ℕ) (x : E) (l r : List E) → k ≤ length l → insertAt k x (l ++ r) ≡ insertAt k x l ++ r
+  inserted-ahead zero x l r h = refl
+  inserted-ahead (suc k) x [] r h = absurd (omega arith)
+  inserted-ahead (suc k) x (e ∷ l) r h = ap (λ (t : List E). e ∷ t) (inserted-ahead k x l r (omega arith))
+
+  removed-behind : (l r : List E) (z : E) (n : ℕ) → length l ≡ n → removeAt n (l ++ (z ∷ r)) ≡ l ++ r
+  removed-behind [] r z zero h = refl
+  removed-behind [] r z (suc n) h = absurd (omega arith)
+  removed-behind (e ∷ l) r z zero h = absurd (omega arith)
+  removed-behind (e ∷ l) r z (suc n) h = ap (λ (t : List E). e ∷ t) (removed-behind l r z n (omega arith))
+
+  inserted-behind : (l r : List E) (x : E) (n : ℕ) → length l ≡ n → insertAt n x (l ++ r) ≡ l ++ (x ∷ r)
+  inserted-behind l r x n h = rw (take-at l r n h, drop-at l r n h)
 
 -- Lists in eight places, the places behind them filled with z.
 module _ {E : Type 0} (z : E) where
@@ -91,32 +126,21 @@ module _ {E : Type 0} (z : E) where
       let t : 8 - length (d ++ (e ∷ [])) ≡ 7 - length d = simp length-append (omega arith) in
       rw (s, t, set-append-seam, append-assoc)
 
-  -- the entries moved up, and the last place filled
-  pub up-end : (l m : List E) (k n : ℕ) → length l ≡ n + 1 → length l ≤ 8 → length m ≡ 8 → k ≤ n → removeAt n m ≡ removeAt k (fill l) → set m n z ≡ fill (removeAt k l)
-  up-end l m k n h b w o e =
-      let c : removeAt k (fill l) ≡ removeAt k l ++ replicate (8 - length l) z =
-      rw (take-append-le k l (replicate (8 - length l) z) (omega arith), drop-append-le (suc k) l (replicate (8 - length l) z) (omega arith)) (sym (append-assoc (take k l) (drop (suc k) l) (replicate (8 - length l) z))) in
-      let r : length (removeAt k l) ≡ n = omega (arith, removed-length k l (omega arith)) in
-      let t : length (take n m) ≡ n = length-take-le n m (omega arith) in
-      let f = same-front (take n m) (drop (suc n) m) (removeAt k l) (replicate (8 - length l) z) n t r (e ∙ c) in
-      let g = same-back (take n m) (drop (suc n) m) (removeAt k l) (replicate (8 - length l) z) n t r (e ∙ c) in
+  -- one entry removed: the others move up, and the last one's place is filled
+  pub fill-removed : (l : List E) (k n : ℕ) → length l ≡ n + 1 → length l ≤ 8 → k ≤ n → insertAt n z (removeAt k (fill l)) ≡ fill (removeAt k l)
+  fill-removed l k n h b o =
+      let r = replicate (8 - length l) z in
+      let t : length (removeAt k l) ≡ n = omega (arith, removed-length k l (omega arith)) in
       let s : 8 - length (removeAt k l) ≡ suc (8 - length l) = omega arith in
-      set-split m n z (omega arith) ∙ rw (f, g, s)
+      ap (insertAt n z) (removed-ahead k l r (omega arith)) ∙ inserted-behind (removeAt k l) r z n t ∙ rw s
 
-  -- the entries moved back, and the last carried one put behind them
-  pub back-end : (l m : List E) (k n : ℕ) (carried x : E) → length l ≡ n → n < 8 → length m ≡ 8 → k ≤ n → insertAt n carried m ≡ insertAt k x (fill l) → set m n carried ≡ fill (insertAt k x l)
-  back-end l m k n carried x h b w o e =
-      let c : insertAt k x (fill l) ≡ insertAt k x l ++ replicate (8 - length l) z =
-      rw (take-append-le k l (replicate (8 - length l) z) (omega arith), drop-append-le k l (replicate (8 - length l) z) (omega arith)) (sym (append-assoc (take k l) (x ∷ drop k l) (replicate (8 - length l) z))) in
-      let r : length (insertAt k x l) ≡ suc n = omega (arith, inserted-length k x l (omega arith)) in
-      let t : length (take n m ++ (carried ∷ [])) ≡ suc n = omega (arith, length-append (take n m) (carried ∷ []), length-take-le n m (omega arith)) in
-      let e′ : (take n m ++ (carried ∷ [])) ++ drop n m ≡ insertAt k x l ++ replicate (8 - length l) z = append-snoc (take n m) carried (drop n m) ∙ e ∙ c in
-      let f = same-front (take n m ++ (carried ∷ [])) (drop n m) (insertAt k x l) (replicate (8 - length l) z) (suc n) t r e′ in
-      let g = same-back (take n m ++ (carried ∷ [])) (drop n m) (insertAt k x l) (replicate (8 - length l) z) (suc n) t r e′ in
-      let s : 8 - length l ≡ suc (8 - length (insertAt k x l)) = omega arith in
-      let q : drop (suc n) m ≡ drop 1 (drop n m) = rw (add-one n) at (sym (drop-drop 1 n m)) in
-      let v : drop (suc n) m ≡ replicate (8 - length (insertAt k x l)) z = q ∙ ap (drop 1) g ∙ rw s in
-      set-split m n carried (omega arith) ∙ sym (append-snoc (take n m) carried (drop (suc n) m)) ∙ rw (f, v)
+  -- one entry inserted: those from there on move back, over the first filled place
+  pub fill-inserted : (l : List E) (k n : ℕ) (x : E) → length l ≡ n → n < 8 → k ≤ n → insertAt k x (removeAt n (fill l)) ≡ fill (insertAt k x l)
+  fill-inserted l k n x h b o =
+      let r = replicate (8 - length (insertAt k x l)) z in
+      let s : 8 - length l ≡ suc (8 - length (insertAt k x l)) = omega (arith, inserted-length k x l (omega arith)) in
+      let c : removeAt n (fill l) ≡ l ++ r = rw s (removed-behind l r z n h) in
+      ap (insertAt k x) c ∙ inserted-ahead k x l r (omega arith)
 
   -- one place changed
   pub fill-set : (l : List E) (k : ℕ) (x : E) → k < length l → set (fill l) k x ≡ fill (replaceAt k x l)

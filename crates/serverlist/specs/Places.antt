@@ -1,13 +1,13 @@
 -- The list by its places, as the functions have it that work on it. No promise of an exported call cites this.
-use mathlib.Core.Bool.{Bool, true, cond}
+use mathlib.Core.Bool.{Bool, true, cond, _&&_}
 use mathlib.Core.List.{List, [], _∷_, _++_, map}
 use mathlib.Core.Path.{_≡_}
-use Prim.Native.Nat.{ℕ, zero, suc, _≤_}
-use lib.Dec.{leb}
+use Prim.Native.Nat.{ℕ, zero, suc, _+_, _-_, _≤_}
+use lib.Dec.{leb, ltb}
 use lib.ListN.{take, drop}
 use Rattle.clock.specs.declared.Moment.{Moment}
 use Rattle.serverlist.specs.Entries.{Kind, Marked, places, unmarked, oneOf}
-use Rattle.serverlist.specs.Servers.{held, packed, unexpired}
+use Rattle.serverlist.specs.Servers.{expires, held, blank, packed, unexpired}
 use Rattle.serverlist.specs.declared.Server.{Server}
 use Rattle.serverlist.specs.declared.ServerList.{ServerList}
 use Rattle.serverlist.specs.declared.eviction.Candidate.{Candidate}
@@ -40,7 +40,7 @@ evictPlace kind (e ∷ l) = cond (oneOf (λ d. kind .noLater d e) l) (suc (evict
 
 -- The candidate for eviction, or the entry at a place in front of it if that one expires before it.
 abbrev pub earlierOf : Candidate → Server → ℕ → Candidate
-earlierOf c e at = cond (leb (c .expiry .0) (e .expiry .0)) c (record { at = at; expiry = e .expiry })
+earlierOf c e at = cond (leb (c .expiry .0) (expires e .0)) c (record { at = at; expiry = expires e })
 
 -- The list has its entries in its places, the others blank.
 pub record InPlaces (list : ServerList) : Type 0 where
@@ -50,3 +50,23 @@ pub record InPlaces (list : ServerList) : Type 0 where
 -- The list at a new clock, without the entries that expired before it; what has a count above eight stays as it is.
 abbrev pub atClock : Moment → ServerList → ServerList
 atClock clock list = cond (leb (list .count) places) (packed clock (unexpired clock (held list))) list
+
+-- The list as it is, with what stands at place out gone, and then an entry put in at a place: those between the two move.
+abbrev pub shifted : ℕ → ℕ → Server → ServerList → ServerList
+shifted out at e list = record { entries = insertAt at e (removeAt out (list .entries)); count = list .count; clock = list .clock }
+
+-- The same, where both are places of a list; else nothing changes.
+abbrev pub exchanged : ℕ → ℕ → Server → ServerList → ServerList
+exchanged out at e list = cond (ltb out places && ltb at places) (shifted out at e list) list
+
+-- The list as it is, with another count.
+abbrev pub counting : ℕ → ServerList → ServerList
+counting n list = record { entries = list .entries; count = n; clock = list .clock }
+
+-- The list without the entry at a place, and with a blank one behind the others; where it holds none there, nothing changes.
+abbrev pub without : ℕ → ServerList → ServerList
+without at list = cond (leb (list .count) places && ltb at (list .count)) (counting (list .count - 1) (shifted at (list .count - 1) blank list)) list
+
+-- The list with an entry put in at a place, ahead of the first place behind the entries; where there is no such place, or no entry ahead, nothing changes.
+abbrev pub insertedIn : ℕ → Server → ServerList → ServerList
+insertedIn at e list = cond (ltb (list .count) places && leb at (list .count)) (counting (list .count + 1) (shifted (list .count) at e list)) list

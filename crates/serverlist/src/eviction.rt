@@ -1,6 +1,7 @@
 // Which entry of a full list is evicted.
 use crate::Server;
 use crate::ServerList;
+use crate::entry;
 use clock::Moment;
 ghost use mathlib.Core.Path.{_≡_};
 ghost use Rattle.serverlist.specs.Servers.{servers};
@@ -18,7 +19,7 @@ fn earlier(c: Candidate, e: Server, at: usize) -> Candidate
     ensures { λ r. ⌜ r ≡ earlierOf c e at ⌝ }
 {
     let x = c.expiry;
-    let y = e.expiry;
+    let y = entry::expiry_of(e);
     if x.0 <= y.0 {
         return c;
     }
@@ -30,8 +31,7 @@ fn earlier(c: Candidate, e: Server, at: usize) -> Candidate
 pub fn evict_place(l: ServerList) -> usize
     ensures { λ r. ⌜ r ≡ evictPlace servers (l .entries) ⌝ }
 {
-    let last = l.entries[7];
-    let x = last.expiry;
+    let x = entry::expiry_of(l.entries[7]);
     let from7 = Candidate { at: 7, expiry: x };
     let from6 = earlier(from7, l.entries[6], 6);
     let from5 = earlier(from6, l.entries[5], 5);

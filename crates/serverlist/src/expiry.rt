@@ -1,5 +1,4 @@
 // The list at a new clock: entries that expired before it go.
-use crate::Address6;
 use crate::PLACES;
 use crate::Server;
 use crate::ServerList;
@@ -10,13 +9,13 @@ ghost use mathlib.Core.Bool.{_&&_, cond};
 ghost use Prim.Native.Nat.{_≤_};
 ghost use lib.Dec.{ltb};
 ghost use Rattle.clock.specs.Clock.{isPast};
-ghost use Rattle.serverlist.specs.Entries.{oneOf};
+ghost use Rattle.serverlist.specs.Entries.{places, oneOf};
 ghost use Rattle.serverlist.specs.Servers.{held, packed, blank, expires, unexpired};
 ghost use Rattle.serverlist.specs.Places.{atClock};
 
 // The entries that have not expired before a new clock, each put behind those found before it.
 fn filtered(l: ServerList, clock: Moment) -> ServerList
-    requires { ⌜ l .count ≤ 8 ⌝ }
+    requires { ⌜ l .count ≤ places ⌝ }
     ensures { λ r. ⌜ r ≡ packed clock (unexpired clock (held l)) ⌝ }
 {
     let n = l.count;
@@ -36,7 +35,7 @@ fn filtered(l: ServerList, clock: Moment) -> ServerList
 
 // Whether the entry at a place of a list of n entries has expired at a clock. A place past the count
 // holds none.
-fn is_gone(e: Server, at: usize, n: usize, clock: Moment) -> bool
+fn is_held_expired(e: Server, at: usize, n: usize, clock: Moment) -> bool
     ensures { λ r. ⌜ r ≡ (ltb at n && isPast (expires e) clock) ⌝ }
 {
     if n <= at {
@@ -46,33 +45,33 @@ fn is_gone(e: Server, at: usize, n: usize, clock: Moment) -> bool
 }
 
 // Whether one of the entries has expired at a clock.
-fn is_any_gone(l: ServerList, clock: Moment) -> bool
-    requires { ⌜ l .count ≤ 8 ⌝ }
+fn is_any_expired(l: ServerList, clock: Moment) -> bool
+    requires { ⌜ l .count ≤ places ⌝ }
     ensures { λ r. ⌜ r ≡ oneOf (λ e. isPast (expires e) clock) (held l) ⌝ }
 {
     let n = l.count;
-    if is_gone(l.entries[0], 0, n, clock) {
+    if is_held_expired(l.entries[0], 0, n, clock) {
         return true;
     }
-    if is_gone(l.entries[1], 1, n, clock) {
+    if is_held_expired(l.entries[1], 1, n, clock) {
         return true;
     }
-    if is_gone(l.entries[2], 2, n, clock) {
+    if is_held_expired(l.entries[2], 2, n, clock) {
         return true;
     }
-    if is_gone(l.entries[3], 3, n, clock) {
+    if is_held_expired(l.entries[3], 3, n, clock) {
         return true;
     }
-    if is_gone(l.entries[4], 4, n, clock) {
+    if is_held_expired(l.entries[4], 4, n, clock) {
         return true;
     }
-    if is_gone(l.entries[5], 5, n, clock) {
+    if is_held_expired(l.entries[5], 5, n, clock) {
         return true;
     }
-    if is_gone(l.entries[6], 6, n, clock) {
+    if is_held_expired(l.entries[6], 6, n, clock) {
         return true;
     }
-    if is_gone(l.entries[7], 7, n, clock) {
+    if is_held_expired(l.entries[7], 7, n, clock) {
         return true;
     }
     false
@@ -85,15 +84,12 @@ fn held_or_blank(e: Server, at: usize, n: usize) -> Server
     if at < n {
         return e;
     }
-    Server {
-        address: Address6 { octets: [0; 16] },
-        expiry: Moment(0),
-    }
+    entry::blank()
 }
 
 // The list at a new clock, with all its entries.
 fn at_clock(l: ServerList, clock: Moment) -> ServerList
-    requires { ⌜ l .count ≤ 8 ⌝ }
+    requires { ⌜ l .count ≤ places ⌝ }
     ensures { λ r. ⌜ r ≡ packed clock (held l) ⌝ }
 {
     let n = l.count;
@@ -121,7 +117,7 @@ pub fn without_expired(l: ServerList, clock: Moment) -> ServerList
     if PLACES < l.count {
         return l;
     }
-    if is_any_gone(l, clock) {
+    if is_any_expired(l, clock) {
         return filtered(l, clock);
     }
     at_clock(l, clock)

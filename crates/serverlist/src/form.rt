@@ -7,13 +7,13 @@ ghost use mathlib.Core.Path.{_≡_};
 ghost use mathlib.Core.Bool.{_&&_};
 ghost use Prim.Native.Nat.{_≤_};
 ghost use Rattle.clock.specs.Clock.{isExpiry};
-ghost use Rattle.serverlist.specs.Entries.{distinct, each};
+ghost use Rattle.serverlist.specs.Entries.{places, distinct, each};
 ghost use Rattle.serverlist.specs.Servers.{servers, held, expires, isSound, isTimely};
 
 // Whether no address stands twice and each expiry is a moment or never. Each entry, at i, is compared
 // with those behind it, at k.
 fn is_orderly(l: ServerList) -> bool
-    requires { ⌜ l .count ≤ 8 ⌝ }
+    requires { ⌜ l .count ≤ places ⌝ }
     ensures { λ r. ⌜ r ≡ (distinct servers (held l) && each (λ e. isExpiry (expires e)) (held l)) ⌝ }
 {
     let n = l.count;
@@ -30,7 +30,7 @@ fn is_orderly(l: ServerList) -> bool
         } else {
             i += 1;
             k = i + 1;
-            if !clock::is_expiry(e.expiry) {
+            if !clock::is_expiry(entry::expiry_of(e)) {
                 return false;
             }
         }

@@ -1,9 +1,11 @@
 // The DNS server list of RFC 5006 by itself: the servers that routers name, in order of preference,
-// each until it expires; its form, its expiry, and which entry is evicted.
+// each until it expires; its form, its expiry, the search of it, and what changes it.
 pub mod entry;
 pub mod eviction;
 pub mod expiry;
 pub mod form;
+pub mod search;
+pub mod shift;
 
 use clock::Moment;
 ghost use mathlib.Core.Path.{_≡_};
@@ -39,10 +41,7 @@ pub struct ServerList {
 pub fn empty(clock: Moment) -> ServerList
     ensures { λ r. ⌜ r ≡ packed clock [] ⌝ }
 {
-    let blank = Server {
-        address: Address6 { octets: [0; 16] },
-        expiry: Moment(0),
-    };
+    let blank = entry::blank();
     ServerList {
         entries: [blank; PLACES],
         count: 0,

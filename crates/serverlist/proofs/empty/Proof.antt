@@ -1,11 +1,19 @@
-use mathlib.Core.Path.{refl}
+use mathlib.Core.List.{[]}
+use mathlib.Core.Path.{ap}
+use lib.ListN.{replicate}
 use Rattle.serverlist.specs.Servers.{packed}
+use Rattle.serverlist.specs.declared.Server.{Server}
+use Rattle.serverlist.specs.declared.ServerList.{ServerList}
+use borrow.Author.Needs.{needs}
 use Rattle.serverlist.proofs.empty.Statement.{statement}
 use Rattle.serverlist.proofs.empty.Tie as tie
 
+blank-requires : tie.Need-blank-requires
+blank-requires c κs = search needs
+
 returns : tie.Need-returns
 unfolding packed
-returns c = refl
+returns c = rw (c .blank .ensures)
 
 pub empty-spec : {M : Type 1} → statement M
-empty-spec = tie.close (tie.spec returns)
+empty-spec = tie.close (tie.spec blank-requires returns)

@@ -20,7 +20,7 @@ use Rattle.rdnss.proofs.option.name_all.Tie as tie
 
 abbrev Inv-loop : tie.InvT-loop
 Inv-loop v n x m₀ own₀ j₀ m own j =
-    (j ≤ n) × Ready (record { list = m; at = own }) × (m .clock ≡ m₀ .clock)
+    (j ≤ n) × Ready (record { list = m; own = own }) × (m .clock ≡ m₀ .clock)
     × (foldl (named servers false x) (marked 0 (held m₀)) (addressesFrom n (drop 8 v)) ≡ foldl (named servers false x) (marked own (held m)) (addressesFrom (n - j) (drop (8 + 16 * j) v)))
 
 abbrev μ-loop : tie.MeasureT-loop
@@ -42,19 +42,26 @@ add-j : tie.Need-add-j Inv-loop μ-loop
 add-j c = search needs
 
 find-requires : tie.Need-find-requires Inv-loop μ-loop
-find-requires c κs = c .before .before .loop .inv .1 .list .within
+find-requires c κs = search needs
+
+mul-renew : tie.Need-mul-renew Inv-loop μ-loop
+mul-renew c = omega (arith, c .before .before .before .before .loop .inv .1 .list .within)
+
+element-copy-out-renew : tie.Need-element-copy-out-renew Inv-loop μ-loop
+element-copy-out-renew c = omega (arith, full-length (c .before .before .before .before .loop .inv .1 .list))
+
+renew-requires : tie.Need-renew-requires Inv-loop μ-loop
+renew-requires c κs = search needs
 
 mul-e : tie.Need-mul-e Inv-loop μ-loop
-mul-e c = omega (arith, c .before .before .before .before .loop .inv .1 .list .within)
+mul-e c =
+    let l = c .before .before .before .before .before .before .loop in
+    omega (arith, l .inv .1 .list .within)
 
-element-copy-out-e : tie.Need-element-copy-out-e Inv-loop μ-loop
-element-copy-out-e c = omega (arith, full-length (c .before .before .before .before .loop .inv .1 .list))
-
-mul-t17 : tie.Need-mul-t17 Inv-loop μ-loop
-mul-t17 c = omega (arith, c .before .before .before .before .before .before .loop .inv .1 .list .within)
-
-element-set-from-m : tie.Need-element-set-from-m Inv-loop μ-loop
-element-set-from-m c = omega (arith, full-length (c .before .before .before .before .before .before .loop .inv .1 .list), c .before .before .before .before .before .before .loop .inv .1 .list .within)
+element-set-from-e : tie.Need-element-set-from-e Inv-loop μ-loop
+element-set-from-e c =
+    let l = c .before .before .before .before .before .before .loop in
+    omega (arith, full-length (l .inv .1 .list), l .inv .1 .list .within)
 
 loop-less : tie.Need-loop-less Inv-loop μ-loop
 loop-less c = omega arith
@@ -64,7 +71,7 @@ again : (c : tie.After-find Inv-loop μ-loop) →
     let s = c .before .before .before .before .before in
     let l = c .before .before .before .loop in
     (q : Placed) → Holds (l .m .clock) (named servers false (s .args .x) (marked (l .own) (held (l .m))) (c .before .address-at .result)) q
-    → Inv-loop (s .args .v .now) (s .args .n) (s .args .x) (s .args .l) 0 0 (q .list) (q .at) (l .j + 1)
+    → Inv-loop (s .args .v .now) (s .args .n) (s .args .x) (s .args .l) 0 0 (q .list) (q .own) (l .j + 1)
 again c q e =
     let s = c .before .before .before .before .before in
     let l = c .before .before .before .loop in
@@ -87,8 +94,8 @@ loop-again c =
     let x = d .before .before .before .before .before .args .x in
     let k = d .find .result in
     let t = c .before .before .if1 .taken in
-    again d _ (found (record { list = l .m; at = l .own }) (l .inv .1) (d .before .address-at .result) x k (d .find .ensures) t
-    (set-packed i k _ t ∙ ap (λ (e : Server). packed (l .m .clock) (replaceAt k (servers .renew x e) (held (l .m)))) (held-at (l .m) k _ t (omega (arith, full-length i, i .within)))))
+    again d _ (found (record { list = l .m; own = l .own }) (l .inv .1) (d .before .address-at .result) x k (d .find .ensures) t
+    (set-packed i k _ t ∙ ap (λ (e : Server). packed (l .m .clock) (replaceAt k e (held (l .m)))) (c .renew .ensures ∙ ap (servers .renew x) (held-at (l .m) k _ t (omega (arith, full-length i, i .within))))))
 
 insert-requires : tie.Need-insert-requires Inv-loop μ-loop
 insert-requires c κs = c .before .before .before .before .loop .inv .1
@@ -100,7 +107,7 @@ loop-again-2 : tie.Need-loop-again-2 Inv-loop μ-loop
 loop-again-2 c =
     let d = c .before .before .before in
     let l = d .before .before .before .loop in
-    again d _ (missing (record { list = l .m; at = l .own }) (l .inv .1) (d .before .address-at .result) (d .before .before .before .before .before .args .x) (d .find .result) (d .find .ensures) (c .before .before .if1 .left) (c .before .insert .ensures))
+    again d _ (missing (record { list = l .m; own = l .own }) (l .inv .1) (d .before .address-at .result) (d .before .before .before .before .before .args .x) (d .find .result) (d .find .ensures) (c .before .before .if1 .left) (c .before .insert .ensures))
 
 returns : tie.Need-returns Inv-loop μ-loop
 unfolding namedAll
@@ -128,10 +135,11 @@ name-all-spec =
     address-at-requires
     add-j
     find-requires
+    mul-renew
+    element-copy-out-renew
+    renew-requires
     mul-e
-    element-copy-out-e
-    mul-t17
-    element-set-from-m
+    element-set-from-e
     loop-less
     loop-again
     insert-requires

@@ -10,6 +10,7 @@ use Rattle.serverlist.specs.Places.{InPlaces}
 use Rattle.serverlist.specs.declared.Address6.{Address6}
 use Rattle.serverlist.specs.declared.Server.{Server}
 use Rattle.serverlist.specs.declared.ServerList.{ServerList}
+use Rattle.serverlist.proofs.PackLaws.{without-packed}
 use Rattle.rdnss.specs.Area.{addressesFrom}
 use Rattle.rdnss.proofs.OptionLaws.{addresses-start, addresses-more, addresses-end, withdrawn, nothing-to-withdraw, withdrawn-places, withdrawn-held, withdrawn-clock}
 use Rattle.rdnss.proofs.option.withdraw_all.Statement.{statement}
@@ -41,8 +42,8 @@ add-j c = search needs
 find-requires : tie.Need-find-requires Inv-loop μ-loop
 find-requires c κs = search needs
 
-remove-at-requires : tie.Need-remove-at-requires Inv-loop μ-loop
-remove-at-requires c κs = search needs
+remove-requires : tie.Need-remove-requires Inv-loop μ-loop
+remove-requires c κs = search needs
 
 loop-less : tie.Need-loop-less Inv-loop μ-loop
 loop-less c = omega arith
@@ -70,7 +71,7 @@ loop-again : tie.Need-loop-again Inv-loop μ-loop
 loop-again c =
     let d = c .before .before in
     let m = d .before .before .before .before .loop .m in
-    again d _ (withdrawn m (d .before .before .before .before .loop .inv .1) (d .before .before .address-at .result) (d .before .find .result) (d .before .find .ensures) (c .remove-at .ensures))
+    again d _ (withdrawn m (d .before .before .before .before .loop .inv .1) (d .before .before .address-at .result) (d .before .find .result) (d .before .find .ensures) (c .remove .ensures ∙ without-packed (d .before .before .before .before .loop .inv .1) (d .before .find .result) (c .before .if1 .taken)))
 
 loop-less-2 : tie.Need-loop-less-2 Inv-loop μ-loop
 loop-less-2 c = omega arith
@@ -101,7 +102,7 @@ withdraw-all-spec =
     address-at-requires
     add-j
     find-requires
-    remove-at-requires
+    remove-requires
     loop-less
     loop-again
     loop-less-2

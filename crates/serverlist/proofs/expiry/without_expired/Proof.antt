@@ -12,8 +12,8 @@ returns c =
     let a = c .before .before .args in
     rw (lt-leb (a .l .count) 8 (c .if1 .taken))
 
-is-any-gone-requires : tie.Need-is-any-gone-requires
-is-any-gone-requires c κs = search needs
+is-any-expired-requires : tie.Need-is-any-expired-requires
+is-any-expired-requires c κs = search needs
 
 filtered-requires : tie.Need-filtered-requires
 filtered-requires c κs = search needs
@@ -30,8 +30,8 @@ returns-3 : tie.Need-returns-3
 returns-3 c =
     let a = c .before .before .before .before .before .args in
     rw (le-leb (a .l .count) 8 (c .before .before .before .if1 .left))
-    (c .at-clock .ensures ∙ ap (packed (a .clock)) (sym (keep-all (λ e. isPast (expires e) (a .clock)) (held (a .l)) (sym (c .before .before .is-any-gone .ensures) ∙ c .before .if2 .left))))
+    (c .at-clock .ensures ∙ ap (packed (a .clock)) (sym (keep-all (λ e. isPast (expires e) (a .clock)) (held (a .l)) (sym (c .before .before .is-any-expired .ensures) ∙ c .before .if2 .left))))
 
 pub without-expired-spec : {M : Type 1} → statement M
 without-expired-spec =
-    tie.close (tie.spec returns is-any-gone-requires filtered-requires returns-2 at-clock-requires returns-3)
+    tie.close (tie.spec returns is-any-expired-requires filtered-requires returns-2 at-clock-requires returns-3)

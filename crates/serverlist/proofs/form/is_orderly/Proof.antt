@@ -1,10 +1,11 @@
 use Prim.Native.Nat.{_≤_, _<_, _+_, _-_, _*_}
-use mathlib.Core.Path.{_≡_, sym, _∙_}
+use mathlib.Core.Path.{_≡_, sym, _∙_, ap}
 use native.Mathlib.Omega.{arith}
 use borrow.Author.Needs.{needs}
 use borrow.Author.Tests.{not-true, not-false}
 use lib.ListN.{length, drop, length-map}
 use lib.Seq.{length-take-le}
+use Rattle.clock.specs.Clock.{isExpiry}
 use Rattle.serverlist.specs.Servers.{held}
 use Rattle.serverlist.proofs.PackLaws.{about-held, expiry-held}
 use Rattle.serverlist.proofs.FormLaws.{orderly, compared, compared-none, compared-end, twice, other, no-expiry, once}
@@ -61,23 +62,30 @@ add-i c = search needs
 add-k-2 : tie.Need-add-k-2 Inv-loop μ-loop
 add-k-2 c = search needs
 
+expiry-of-requires : tie.Need-expiry-of-requires Inv-loop μ-loop
+expiry-of-requires c κs = search needs
+
 is-expiry-requires : tie.Need-is-expiry-requires Inv-loop μ-loop
 is-expiry-requires c κs = search needs
 
 returns-2 : tie.Need-returns-2 Inv-loop μ-loop
 returns-2 c =
-    let x = c .before .before .before .before .before .before .args .t1 in
-    let l = c .before .before .before .before .before .loop in
-    sym (l .inv .5 ∙ no-expiry (held x) (l .i) (l .k) (omega arith) (omega arith) (omega arith) (expiry-held x (l .i) _ _ (sym (c .before .is-expiry .ensures) ∙ not-true _ (c .if3 .taken)) (omega arith) (omega arith)))
+    let g = c .before .before in
+    let x = g .before .before .before .before .before .args .t1 in
+    let l = g .before .before .before .before .loop in
+    let y = ap isExpiry (g .expiry-of .ensures) in
+    sym (l .inv .5 ∙ no-expiry (held x) (l .i) (l .k) (omega arith) (omega arith) (omega arith) (expiry-held x (l .i) _ _ (sym (c .before .is-expiry .ensures ∙ y) ∙ not-true _ (c .if3 .taken)) (omega arith) (omega arith)))
 
 loop-less-2 : tie.Need-loop-less-2 Inv-loop μ-loop
 loop-less-2 c = omega arith
 
 loop-again-2 : tie.Need-loop-again-2 Inv-loop μ-loop
 loop-again-2 c =
-    let x = c .before .before .before .before .before .before .args .t1 in
-    let l = c .before .before .before .before .before .loop in
-    (l .inv .0, l .inv .1, omega arith, omega arith, omega arith, l .inv .5 ∙ once (held x) (l .i) (l .k) (omega arith) (omega arith) (omega arith) (expiry-held x (l .i) _ _ (sym (c .before .is-expiry .ensures) ∙ not-false _ (c .if3 .left)) (omega arith) (omega arith)))
+    let g = c .before .before in
+    let x = g .before .before .before .before .before .args .t1 in
+    let l = g .before .before .before .before .loop in
+    let y = ap isExpiry (g .expiry-of .ensures) in
+    (l .inv .0, l .inv .1, omega arith, omega arith, omega arith, l .inv .5 ∙ once (held x) (l .i) (l .k) (omega arith) (omega arith) (omega arith) (expiry-held x (l .i) _ _ (sym (c .before .is-expiry .ensures ∙ y) ∙ not-false _ (c .if3 .left)) (omega arith) (omega arith)))
 
 returns-3 : tie.Need-returns-3 Inv-loop μ-loop
 returns-3 c =
@@ -103,6 +111,7 @@ is-orderly-spec =
     loop-again
     add-i
     add-k-2
+    expiry-of-requires
     is-expiry-requires
     returns-2
     loop-less-2

@@ -1,8 +1,8 @@
 use native.Mathlib.Omega.{arith}
 use borrow.Author.Tests.{lt-ltb, le-ltb}
 use borrow.Author.Needs.{needs}
-use Rattle.serverlist.proofs.expiry.is_gone.Statement.{statement}
-use Rattle.serverlist.proofs.expiry.is_gone.Tie as tie
+use Rattle.serverlist.proofs.expiry.is_held_expired.Statement.{statement}
+use Rattle.serverlist.proofs.expiry.is_held_expired.Tie as tie
 
 returns : tie.Need-returns
 returns c = simp (le-ltb _ _ (c .if1 .taken))
@@ -15,5 +15,5 @@ returns-2 c =
     let a = c .before .before .args in
     simp (lt-ltb (a .at) (a .n) (omega arith), c .is-expired .ensures)
 
-pub is-gone-spec : {M : Type 1} → statement M
-is-gone-spec = tie.close (tie.spec returns is-expired-requires returns-2)
+pub is-held-expired-spec : {M : Type 1} → statement M
+is-held-expired-spec = tie.close (tie.spec returns is-expired-requires returns-2)

@@ -1,8 +1,8 @@
 use native.Mathlib.Omega.{arith}
 use borrow.Author.Tests.{lt-ltb, le-ltb}
 use borrow.Author.Needs.{needs}
-use Rattle.rdnss.proofs.list.is_here.Statement.{statement}
-use Rattle.rdnss.proofs.list.is_here.Tie as tie
+use Rattle.serverlist.proofs.search.is_held_about.Statement.{statement}
+use Rattle.serverlist.proofs.search.is_held_about.Tie as tie
 
 returns : tie.Need-returns
 returns c = simp (le-ltb _ _ (c .if1 .taken))
@@ -15,5 +15,5 @@ returns-2 c =
     let a = c .before .before .args in
     simp (lt-ltb (a .at) (a .n) (omega arith), c .is-about .ensures)
 
-pub is-here-spec : {M : Type 1} → statement M
-is-here-spec = tie.close (tie.spec returns is-about-requires returns-2)
+pub is-held-about-spec : {M : Type 1} → statement M
+is-held-about-spec = tie.close (tie.spec returns is-about-requires returns-2)
