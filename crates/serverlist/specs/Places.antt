@@ -51,7 +51,7 @@ pub record InPlaces (list : ServerList) : Type 0 where
 abbrev pub atClock : Moment → ServerList → ServerList
 atClock clock list = cond (leb (list .count) places) (packed clock (unexpired clock (held list))) list
 
--- The list as it is, with what stands at place out gone, and then an entry put in at a place: those between the two move.
+-- The struct as it is, with what stands at place out gone, and then an entry put in at a place: what stands between the two moves.
 abbrev pub shifted : ℕ → ℕ → Server → ServerList → ServerList
 shifted out at e list = record { entries = insertAt at e (removeAt out (list .entries)); count = list .count; clock = list .clock }
 
@@ -63,10 +63,10 @@ exchanged out at e list = cond (ltb out places && ltb at places) (shifted out at
 abbrev pub counting : ℕ → ServerList → ServerList
 counting n list = record { entries = list .entries; count = n; clock = list .clock }
 
--- The list without the entry at a place, and with a blank one behind the others; where it holds none there, nothing changes.
+-- The list without the entry at a place, and with a blank right behind the others; where it holds none there, nothing changes.
 abbrev pub without : ℕ → ServerList → ServerList
 without at list = cond (leb (list .count) places && ltb at (list .count)) (counting (list .count - 1) (shifted at (list .count - 1) blank list)) list
 
--- The list with an entry put in at a place, ahead of the first place behind the entries; where there is no such place, or no entry ahead, nothing changes.
+-- The list with an entry put in at a place, those from there on one place further back; where there is no room, or the place is further back than right behind the entries, nothing changes.
 abbrev pub insertedIn : ℕ → Server → ServerList → ServerList
 insertedIn at e list = cond (ltb (list .count) places && leb at (list .count)) (counting (list .count + 1) (shifted (list .count) at e list)) list

@@ -5,7 +5,9 @@ use Rattle.serverlist.proofs.search.is_held_about.Statement.{statement}
 use Rattle.serverlist.proofs.search.is_held_about.Tie as tie
 
 returns : tie.Need-returns
-returns c = simp (le-ltb _ _ (c .if1 .taken))
+returns c =
+    let a = c .before .args in
+    simp (le-ltb (a .at) (a .n) (omega arith))
 
 is-about-requires : tie.Need-is-about-requires
 is-about-requires c κs = search needs
