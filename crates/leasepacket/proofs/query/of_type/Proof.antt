@@ -28,13 +28,15 @@ shared-slice-read-if2 c =
 
 returns-2 : tie.Need-returns-2
 returns-2 c =
-    let s = c .before .before .before .before .before .before .before in
+    let b = c .before .before .before in
+    let s = b .before .before .before .before in
     let g = c .before .before .before .before .kind .given in
     refuses-4 _ _ (s .pre .1) (type-is-octet _ (g .0 .0) (g .0 .1 .0) (subst (ReadAs 53 (s .args .p .now)) (g .1) (s .pre .0)) (c .before .before .if1 .left) ∙ ne-eqb _ _ (c .if2 .taken))
 
 from-relay-requires : tie.Need-from-relay-requires
 from-relay-requires c κs =
-    let s = c .before .before .before .before .before .before .before in
+    let b = c .before .before .before in
+    let s = b .before .before .before .before in
     let g = c .before .before .before .before .kind .given in
     passed-4 _ _ (s .pre .1) (type-is-octet _ (g .0 .0) (g .0 .1 .0) (subst (ReadAs 53 (s .args .p .now)) (g .1) (s .pre .0)) (c .before .before .if1 .left) ∙ eq-eqb _ _ (c .if2 .left))
 

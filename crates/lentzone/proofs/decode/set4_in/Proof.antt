@@ -5,7 +5,9 @@ use Rattle.lentzone.proofs.decode.set4_in.Tie as tie
 
 returns : tie.Need-returns
 unfolding part
-returns c = rw (c .before .addr4-in4 .ensures, c .before .before .before .addr4-in3 .ensures, c .before .before .before .before .before .addr4-in2 .ensures, c .before .before .before .before .before .before .before .addr4-in .ensures)
+returns c =
+    let b = c .before .before .before in
+    rw (c .before .addr4-in4 .ensures, b .addr4-in3 .ensures, b .before .before .addr4-in2 .ensures, b .before .before .before .before .addr4-in .ensures)
 
 pub set4-in-spec : {M : Type 1} → statement M
 set4-in-spec =

@@ -61,7 +61,8 @@ loop-less c = omega arith
 loop-again : tie.Need-loop-again Inv-loop μ-loop
 loop-again c =
     let l = c .before .before .before .before .loop in
-    let s = c .before .before .before .before .before .before .before in
+    let b = c .before .before .before in
+    let s = b .before .before .before .before in
     (omega arith, simp length-set (l .inv .1), hex-turns (s .args .buf .now) (s .args .src .now) (l .buf) (s .args .at) (l .i) _ _ (s .pre) (omega arith) (l .inv .2) (c .before .character .ensures) (c .character2 .ensures))
 
 mul-result : tie.Need-mul-result Inv-loop μ-loop
