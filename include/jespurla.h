@@ -1,20 +1,39 @@
 /*
- * Jespurla: the core of an address box. Every call here is proved to meet its promise; the
- * definitions that the promises cite stand in crates/NAME/specs, and docs/PROMISES.md lists them.
+ * Jespurla: the core of an address box. It answers lease queries (RFC 4388) and the DHCPv6 name
+ * option (RFC 4704), keeps the DNS servers that routers announce (RFC 5006), and writes names into a
+ * DNS zone that several boxes share (RFC 4703). It opens no sockets and keeps no state of its own.
  *
- * What a caller owes:
+ * Every call is proved to meet its promise; docs/PROMISES.md lists the promises and docs/RULES.md the
+ * rules. Every call takes every value of its arguments, returns, and reads and writes only what it
+ * was lent.
+ *
+ * Results. A call that can refuse its input returns a struct whose first field is refusal: 0 for
+ * none, or a number of jespurla_refusals.def, which has a constant JESPURLA_REFUSED_... and a text.
+ * Test it before anything else of the struct. Beside a refusal the other numbers are 0, and every
+ * buffer, list, zone and job is as it was before the call. Each call says below which refusals it
+ * has, in the order in which they are tried: the first that applies is given.
+ *
+ * What a caller owes.
  *  - A pointer that goes with a length or a count points to as many octets or records, and is not
  *    null even where there are none.
  *  - A buffer that a call writes overlaps no other argument, and until the call has returned nobody
  *    else writes what it was lent or reads what it writes.
- *  - Stack: 16 KiB for the calls on a lent zone; 256 KiB for those that take a zone by value, since
- *    its 23,936 octets go in and out; 64 KiB for the others. The tests run every call on a zone, and
- *    of the others the lease query, which takes the most, on stacks of these sizes.
- * Everything else is the library's: every call takes every value of its arguments, returns, reads
- * and writes only what it was lent, keeps no state and needs no memory but the stack.
+ *  - Stack enough, as follows.
  *
- * A refusal is a number, 0 for none; each call says below what its refusals mean and in which order
- * they are tried. A refused call leaves every lent buffer as it was.
+ * Stack. The library alone takes under 6 KiB in every call but those that take a zone by value; 16
+ * KiB are enough for those calls with the caller's own copies of names and jobs. A call that takes a
+ * zone by value takes up to 104 KiB itself, and 160 KiB with the copies that its caller makes of the
+ * zone that goes in and the one that comes out: give it 256 KiB. The threads of musl have 128 KiB
+ * unless told otherwise, which is not enough for those: lend the zone.
+ *
+ * Threads. No call keeps anything from one call to the next, in memory or elsewhere, so calls may run
+ * at the same time on different memory, and calls that only read may share what they read. Calls that
+ * write one zone or one buffer are to be made one after the other.
+ *
+ * What the archive needs: memcpy, memmove and memset of a C library or of your own, and a stack. It
+ * allocates nothing and reads neither clock nor files.
+ *
+ * Every struct has the size and the offsets of jespurla_layout.def on x86-64.
  */
 #ifndef JESPURLA_H
 #define JESPURLA_H
@@ -27,11 +46,61 @@ extern "C" {
 #endif
 
 /*
- * A refusal and a result share one number: the upper 16 bits hold the refusal, 0 for none, and the
- * lower 16 the result, 0 where it is refused.
+ * The version of this header. Until 1.0.0 the second number rises where a program that uses the
+ * library may have to change.
  */
-#define JESPURLA_REFUSAL(number) ((uint32_t)(number) >> 16)
-#define JESPURLA_RESULT(number) ((uint32_t)(number) & 0xffffu)
+#define JESPURLA_VERSION_MAJOR 0
+#define JESPURLA_VERSION_MINOR 2
+#define JESPURLA_VERSION_PATCH 0
+#define JESPURLA_VERSION \
+    (JESPURLA_VERSION_MAJOR * 65536 + JESPURLA_VERSION_MINOR * 256 + JESPURLA_VERSION_PATCH)
+
+/* The version of the library that is linked, as a number to compare with JESPURLA_VERSION. */
+uint32_t jespurla_version(void);
+
+/* JESPURLA_REFUSED_PACKET = 1 and so on, one for each line of the list. */
+enum jespurla_refusal {
+#define JESPURLA_REFUSAL(number, name, text) JESPURLA_REFUSED_##name = number,
+#include "jespurla_refusals.def"
+#undef JESPURLA_REFUSAL
+    JESPURLA_NOT_REFUSED = 0
+};
+
+/* What a refusal means, in words. */
+static inline const char *jespurla_refusal_text(uint32_t refusal)
+{
+    switch (refusal) {
+    case JESPURLA_NOT_REFUSED:
+        return "not refused";
+#define JESPURLA_REFUSAL(number, name, text) \
+    case number: \
+        return text;
+#include "jespurla_refusals.def"
+#undef JESPURLA_REFUSAL
+    default:
+        return "no such refusal";
+    }
+}
+
+/* Limits, in octets where nothing else is said. */
+#define JESPURLA_NAME_MAX 255            /* a full name */
+#define JESPURLA_LABEL_MAX 63            /* a label of it */
+#define JESPURLA_NAME_REPLY_MIN 256      /* the buffer for the answer to a name option */
+#define JESPURLA_AREA_MAX 1500           /* a router's option area */
+#define JESPURLA_SERVERS_MAX 8           /* servers in the list */
+#define JESPURLA_OPTION_SERVERS_MAX 3    /* addresses of one option that count */
+#define JESPURLA_PACKET_MIN 240          /* a lease query */
+#define JESPURLA_PACKET_MAX 1500
+#define JESPURLA_LEASE_REPLY_MIN 648     /* the buffer for a lease reply; no reply is longer */
+#define JESPURLA_LEASES_MAX 256          /* records in the lease table */
+#define JESPURLA_HARDWARE_MAX 16         /* a hardware address */
+#define JESPURLA_CLIENT_ID_MAX 64        /* a client id in the lease table */
+#define JESPURLA_RELAY_MAX 64            /* relay agent information in the lease table */
+#define JESPURLA_REPLY_ADDRESSES_MAX 63  /* addresses in option 92 of a reply */
+#define JESPURLA_DHCID_LENGTH 35         /* a DHCID */
+#define JESPURLA_NAMES_MAX 64            /* names in a zone */
+#define JESPURLA_NAME_ADDRESSES_MAX 4    /* addresses that a name has of each family */
+#define JESPURLA_REQUESTS_MAX 6          /* requests that an add sends */
 
 /*
  * A moment on the clock, in seconds: 0 to JESPURLA_LATEST. Where it is an expiry it may also be
@@ -44,93 +113,122 @@ typedef struct {
 #define JESPURLA_LATEST UINT64_C(0xffffffffffff)
 #define JESPURLA_NEVER UINT64_MAX
 
-/* The bits of a name option's flags octet (RFC 4704). */
-#define JESPURLA_FLAG_S 1
-#define JESPURLA_FLAG_O 2
-#define JESPURLA_FLAG_N 4
+/* ---- The DHCPv6 name option (RFC 4704) */
+
+/* The bits of its flags octet. */
+#define JESPURLA_FLAG_S 1 /* the server updates the name's address */
+#define JESPURLA_FLAG_O 2 /* the server has overridden the client's wish for S */
+#define JESPURLA_FLAG_N 4 /* the server updates nothing */
+
+typedef struct {
+    uint32_t refusal;
+    uint32_t flags; /* the flags octet of the answer: 0, S, O or N */
+} jespurla_flag_answer;
 
 /*
- * The flag decision of the DHCPv6 name option.
+ * The flag decision.
  *
- * flags: the client's flags octet; bits above N are ignored.
+ * flags: the client's flags octet; bits above N are not looked at.
  * honour_s, honour_n: whether S, or N, may be honoured: 0 is no, any other number yes.
  *
- * Result: the flags octet of the answer: 0, 1, 2 or 4.
- * Refusal: 10 where O is set, or S and N both.
- * Promise: the number is the entry of the table of 32 answers in crates/fqdn/specs/Flags.antt.
+ * The rule: the answer starts with no bit. Where the client sets N and N may be honoured, it is N.
+ * Where the client sets S and S may be honoured, it is S; where it sets S and S may not, it is O, since
+ * the server has overridden the client's wish. In every other case it stays without a bit.
+ * Refusals: 10 O is set, or S and N both.
  */
-uint32_t jespurla_flag_decision(uint8_t flags, uint8_t honour_s, uint8_t honour_n);
+jespurla_flag_answer jespurla_flag_decision(uint8_t flags, uint8_t honour_s, uint8_t honour_n);
+
+typedef struct {
+    uint32_t refusal;
+    uint32_t length; /* how many octets stand at the front of reply */
+} jespurla_name_answer;
 
 /*
- * The server's answer to a DHCPv6 name option.
+ * The server's answer to a name option.
  *
- * value, value_length: the option's value, a flags octet and then a name.
+ * value, value_length: the option's value: a flags octet and then a name.
  * suffix, suffix_length: what completes a partial name; a full name.
  * honour_s, honour_n: as above.
- * reply, reply_length: where the answer goes; at least 256 octets.
+ * reply, reply_length: where the answer goes; at least JESPURLA_NAME_REPLY_MIN octets.
  *
- * Result: how many octets were written to the front of reply: the flags octet and a full name. A
- * full name is answered octet for octet, a partial one is followed by the suffix. The octets of
- * reply past those keep their values.
- * Refusals, the first that applies: 14 reply under 256 octets; 10 value empty, or its flags refused;
- * 11 suffix not a full name; 12 name empty; 11 name malformed; 13 completed name over 255 octets.
- * Promise: the number and every octet of reply, refused or not, are those that the rules give.
+ * The rule: a name is labels of 1 to 63 octets, each behind its length. It is full where a 0 ends it
+ * and nothing follows, at most 255 octets in all; partial where the field ends behind a label, at most
+ * 254; anything else, a lone 0 among it, is malformed. The answer is the flags octet of the decision
+ * above and the name: a full name octet for octet, a partial one with the suffix behind it. The octets
+ * of reply past the answer keep their values.
+ * Refusals: 14 reply too short; 10 value empty, or its flags refused; 11 suffix not a full name; 12
+ * name empty; 11 name malformed; 13 completed name over 255 octets.
+ * A server that gets a refusal about the client's option (10 to 13) sends its reply without a name
+ * option, or asks its own configuration for a name where the name was empty (12).
  */
-uint32_t jespurla_name_option_answer(const uint8_t *value, size_t value_length,
-                                     const uint8_t *suffix, size_t suffix_length,
-                                     uint8_t honour_s, uint8_t honour_n,
-                                     uint8_t *reply, size_t reply_length);
+jespurla_name_answer jespurla_name_option_answer(const uint8_t *value, size_t value_length,
+                                                 const uint8_t *suffix, size_t suffix_length,
+                                                 uint8_t honour_s, uint8_t honour_n,
+                                                 uint8_t *reply, size_t reply_length);
 
-/* A DNS server that a router announced: an IPv6 address and its expiry. */
+/* ---- The DNS servers that routers announce (RFC 5006) */
+
+/* A server: an IPv6 address, and the last moment at which it is still in use. */
 typedef struct {
     uint8_t address[16];
     jespurla_moment expiry;
 } jespurla_server;
 
 /*
- * The DNS servers, the preferred one first, and the last accepted clock. A list of zeros is empty, at
+ * The servers, the preferred one first, and the last accepted clock. A list of zeros is empty, at
  * clock 0. Entries past the count are not looked at, and are zero in a list that a call made.
  */
 typedef struct {
-    jespurla_server entries[8];
+    jespurla_server entries[JESPURLA_SERVERS_MAX];
     size_t count;
     jespurla_moment clock;
 } jespurla_server_list_state;
 
 typedef struct {
     uint32_t refusal;
-    jespurla_server_list_state list;
+    jespurla_server_list_state list; /* the next list; beside a refusal the one handed in */
 } jespurla_server_list_answer;
 
 /*
- * The DNS server list (RFC 5006) after a router's option area has come in.
+ * The list after a router's option area has come in. An empty area only drops what has expired.
  *
  * list: the list as the call before returned it.
  * clock: now.
  * area, area_length: the options of a router advertisement, one behind the other.
  *
- * Result: refusal 0, and the new list at the new clock; or a refusal, and the very list that was
- * handed in.
- * Refusals, the first that applies: 31 list with a count over 8, two entries of one address, an
- * expiry that is neither a moment nor never, or a clock above JESPURLA_LATEST; 15 clock above
- * JESPURLA_LATEST or behind the list's; 16 area over 1,500 octets, or with an option of Length 0 or
- * one past the end.
- * Promise: the refusal and every field of the list are those that the rules give.
+ * The rule: first every server goes whose expiry is less than the clock: at its expiry a server is
+ * still there, a second later it is gone. Then the options act in turn. One acts where its Type is 25
+ * and its Length, in units of 8 octets, is odd and at least 3; of its addresses the first three count,
+ * and all have its Lifetime. Other options do nothing. With Lifetime 0 an address is taken off the
+ * list, if it is there. With any other an address that is there gets the expiry clock + Lifetime (at
+ * most JESPURLA_LATEST, and JESPURLA_NEVER where the Lifetime is all ones) and keeps its place. One
+ * that is not there is put in with that expiry: ahead of all servers that this option did not put in,
+ * behind those that it did. Where the list has eight already, the one that expires first goes before
+ * (never is last; of several the one furthest back).
+ * Refusals: 31 list with a count over 8, two entries of one address, an expiry that is neither a
+ * moment nor never, or a clock above JESPURLA_LATEST; 15 clock above JESPURLA_LATEST or behind the
+ * list's; 16 area over JESPURLA_AREA_MAX octets, or with an option of Length 0 or one past the end. The
+ * area is tested whole before anything of it is applied. A host that gets 16 drops the advertisement.
  */
 jespurla_server_list_answer jespurla_server_list(jespurla_server_list_state list,
                                                  jespurla_moment clock,
                                                  const uint8_t *area, size_t area_length);
 
-/* A record of the lease table. */
+/* ---- Lease queries (RFC 4388) */
+
 #define JESPURLA_LEASE_FREE 0
 #define JESPURLA_LEASE_LEASED 1
 
+/*
+ * A record of the lease table. It is active where its state is leased and its expiry is never or later
+ * than now: at the very moment of its expiry it is not.
+ */
 typedef struct {
     jespurla_moment last;   /* the last transaction */
     jespurla_moment expiry; /* a moment, or JESPURLA_NEVER */
-    uint8_t chaddr[16];     /* the hardware address: zeros from hlen on */
-    uint8_t id[64];         /* the client id; octets from idlen on are not looked at */
-    uint8_t relay[64];      /* relay agent information; octets from relaylen on are not looked at */
+    uint8_t chaddr[JESPURLA_HARDWARE_MAX]; /* the hardware address: zeros from hlen on */
+    uint8_t id[JESPURLA_CLIENT_ID_MAX];    /* the client id; octets from idlen on are not looked at */
+    uint8_t relay[JESPURLA_RELAY_MAX]; /* relay agent information; from relaylen on not looked at */
     uint32_t address;       /* as a number: 10.0.0.1 is 0x0a000001 */
     uint8_t state;          /* JESPURLA_LEASE_FREE or JESPURLA_LEASE_LEASED */
     uint8_t htype;          /* 0 where hlen is 0 */
@@ -139,7 +237,7 @@ typedef struct {
     uint8_t relaylen;       /* 0 to 64 */
 } jespurla_lease;
 
-/* The kinds of reply (RFC 4388). */
+/* The kinds of reply. */
 #define JESPURLA_LEASEUNASSIGNED 11
 #define JESPURLA_LEASEUNKNOWN 12
 #define JESPURLA_LEASEACTIVE 13
@@ -147,29 +245,39 @@ typedef struct {
 typedef struct {
     uint32_t refusal;
     uint32_t kind;
-    uint32_t length;
+    uint32_t length; /* how many octets stand at the front of reply */
 } jespurla_lease_answer;
 
 /*
  * The reply to a DHCPv4 lease query.
  *
  * clock: now.
- * table, count: the lease table, at most 256 records, addresses nonzero and strictly rising. It is
- * only read.
+ * table, count: the lease table, at most JESPURLA_LEASES_MAX records, addresses nonzero and strictly
+ * rising. It is only read, and not at all where the count is above that.
  * server: this server's address, as a number.
  * query, query_length: the packet.
- * reply, reply_length: where the reply goes; at least 648 octets.
+ * reply, reply_length: where the reply goes; at least JESPURLA_LEASE_REPLY_MIN octets.
  *
- * Result: refusal 0, the kind of the reply and how many octets it has at the front of reply; the
- * octets of reply past those keep their values. Beside a refusal kind and length are 0.
- * Refusals, the first that applies: 15 clock above JESPURLA_LATEST; 9 the table breaks its form; 8
- * reply under 648 octets; 1 packet under 240 or over 1,500 octets, or a wrong cookie; 2 op not 1; 3
- * options past the end, no end option, or 53 or 61 twice; 4 option 53 absent, not one octet or not
- * 10; 5 giaddr zero; 6 not exactly one key; 7 hardware key with hlen 0 or above 16, or a client id of
- * 0 or 1 octets.
- * Promise: the answer and every octet of reply, refused or not, are those that the rules give. A
- * query by client that meets no refusal is answered LEASEUNKNOWN exactly if no active lease of that
- * client stands in the table.
+ * The rule: a query has one key. A ciaddr that is not zero asks by address; a hardware address (htype,
+ * hlen and the first hlen octets of chaddr) or a client id (option 61) asks by client.
+ *  - By address: LEASEACTIVE where the address has an active record, LEASEUNASSIGNED where it has a
+ *    record that is not active, LEASEUNKNOWN where it has none.
+ *  - By client: LEASEACTIVE where the client has an active lease, about the one with the latest last
+ *    transaction (of several the lowest address); else LEASEUNKNOWN, and only then. Never
+ *    LEASEUNASSIGNED.
+ * The reply copies xid, flags and giaddr. Of an active lease it has ciaddr, htype, hlen and chaddr of
+ * the record, the seconds left (51; all ones for never), the client id (61) and relay information (82)
+ * if there are any, the seconds since the last transaction (91), and, by client with two or more
+ * active leases, their addresses, the latest first, at most 63 (92). Otherwise those fields are the
+ * query's. Option 53 has the kind and 54 the server's address. The octets of reply past it keep their
+ * values.
+ * Refusals: 15 clock above JESPURLA_LATEST; 9 the table breaks its form; 8 reply too short; 1 packet
+ * under JESPURLA_PACKET_MIN or over JESPURLA_PACKET_MAX octets, or a wrong cookie; 2 op not 1; 3
+ * options past the end, no end option, or 53 or 61 twice; 4 option 53 absent, not one octet or not 10;
+ * 5 giaddr zero; 6 not exactly one key; 7 hardware key with hlen 0 or above 16, or a client id of 0 or
+ * 1 octets.
+ * A server that gets 1 to 7 drops the packet and sends nothing; 8, 9 and 15 are about its own memory
+ * and clock.
  */
 jespurla_lease_answer jespurla_lease_query(jespurla_moment clock,
                                            const jespurla_lease *table, size_t count,
@@ -177,21 +285,24 @@ jespurla_lease_answer jespurla_lease_query(jespurla_moment clock,
                                            const uint8_t *query, size_t query_length,
                                            uint8_t *reply, size_t reply_length);
 
+/* ---- A DNS zone, and what stands in it */
+
 /*
- * A DNS zone. Every struct of it is made of octets alone, so it has no gaps: an entry has 374 octets
- * and a zone 23,936. The calls on it come in two kinds: those that take it by value and hand the next
- * one back, and, at the end of this file, those that it is lent to. Wherever a zone is kept, lend it.
+ * Every struct of a zone is made of octets alone, so it has no gaps: an entry has 374 octets and a
+ * zone 23,936. Wherever a zone is kept, lend it: the calls whose names end in _lent, jespurla_zone_find
+ * and jespurla_zone_same take a pointer and the size, copy no zone and need little stack. The others
+ * take the zone by value and hand the next one back.
  */
 
 /* A domain name as it stands in a message; octets from length on are not looked at. */
 typedef struct {
-    uint8_t octets[255];
+    uint8_t octets[JESPURLA_NAME_MAX];
     uint8_t length;
 } jespurla_name;
 
 /* A DHCID (RFC 4701), opaque here. */
 typedef struct {
-    uint8_t octets[35];
+    uint8_t octets[JESPURLA_DHCID_LENGTH];
 } jespurla_dhcid;
 
 /* An address of family 4 (its first 4 octets; the others are not looked at) or 6 (all 16). */
@@ -201,17 +312,17 @@ typedef struct {
 
 /* At most four addresses of a family, no two equal; items from count on are not looked at. */
 typedef struct {
-    uint8_t items[4][4];
+    uint8_t items[JESPURLA_NAME_ADDRESSES_MAX][4];
     uint8_t count;
 } jespurla_set4;
 
 typedef struct {
-    uint8_t items[4][16];
+    uint8_t items[JESPURLA_NAME_ADDRESSES_MAX][16];
     uint8_t count;
 } jespurla_set6;
 
 #define JESPURLA_FREE 0   /* a free place: nothing else in the entry is looked at */
-#define JESPURLA_STATIC 1 /* a static name: its dhcid is not looked at */
+#define JESPURLA_STATIC 1 /* a static name, which nobody owns: its dhcid is not looked at */
 #define JESPURLA_HELD 2   /* a name held by its dhcid */
 
 typedef struct {
@@ -222,19 +333,80 @@ typedef struct {
     jespurla_set6 v6;
 } jespurla_entry;
 
-/* A zone of zeros is empty. Which place a name has does not matter, and freed places serve again. */
+/*
+ * A zone of zeros is empty. Which place a name has does not matter, and freed places serve again. A
+ * zone breaks its form where an entry has a kind not listed, a name that is not full, a count over 4
+ * or two equal addresses, or where two names are equal. Names are equal where their octets are.
+ */
 typedef struct {
-    jespurla_entry entries[64];
+    jespurla_entry entries[JESPURLA_NAMES_MAX];
 } jespurla_zone;
 
-/* Families and policies. */
+/* Families of addresses, and policies: what becomes of a name's other addresses. */
 #define JESPURLA_FAMILY_4 4
 #define JESPURLA_FAMILY_6 6
 #define JESPURLA_KEEP_OTHERS 0   /* other addresses stay */
 #define JESPURLA_ONE_OF_FAMILY 1 /* no other address of this family stays */
 #define JESPURLA_ONLY_THIS 2     /* no other address stays */
 
-/* The answers to a request: the response codes of RFC 2136, and one of our own. */
+typedef struct {
+    uint32_t refusal;
+    jespurla_entry entry;
+} jespurla_find_answer;
+
+/*
+ * What stands at a name.
+ *
+ * zone, length: the zone and its size, sizeof(jespurla_zone). It is only read.
+ * name: a full name.
+ *
+ * The rule: entry is a copy, octet for octet, of the one entry that has the name; its kind tells a
+ * static name from a held one. Where the name is absent, entry is zeros, of kind JESPURLA_FREE.
+ * Refusals: 17 the length is not that of a zone, or the zone breaks its form; 11 a name that is not
+ * full.
+ */
+jespurla_find_answer jespurla_zone_find(const jespurla_zone *zone, size_t length,
+                                        jespurla_name name);
+
+typedef struct {
+    uint32_t refusal;
+    uint32_t same; /* 1 or 0 */
+} jespurla_same_answer;
+
+/*
+ * Whether two zones mean the same. memcmp says that they differ where only places differ, or octets
+ * that are not looked at.
+ *
+ * left, left_length, right, right_length: the zones and their sizes. They are only read, and may be
+ * one and the same.
+ *
+ * The rule: same is 1 exactly if both have the same names, with the same owner at each (a static name
+ * has none) and the same addresses of each family, in whatever order.
+ * Refusals: 17 a length is not that of a zone, or one of the zones breaks its form.
+ */
+jespurla_same_answer jespurla_zone_same(const jespurla_zone *left, size_t left_length,
+                                        const jespurla_zone *right, size_t right_length);
+
+typedef struct {
+    uint32_t refusal;
+} jespurla_check_answer;
+
+/*
+ * The check alone, for a caller that sends no request: the refusal that a request with these would
+ * get. Where there is no policy, pass 0. By value, and on a zone that is lent and only read.
+ *
+ * Refusals: 17 the zone breaks its form or, lent, the length is not that of a zone; 18 a family or
+ * policy not listed; 11 a name that is not full.
+ */
+jespurla_check_answer jespurla_zone_check(jespurla_zone zone, jespurla_name name, uint8_t family,
+                                          uint8_t policy);
+
+jespurla_check_answer jespurla_zone_check_lent(const jespurla_zone *zone, size_t length,
+                                               jespurla_name name, uint8_t family, uint8_t policy);
+
+/* ---- The requests of RFC 4703, each tested and done at once */
+
+/* The answers: the response codes of RFC 2136, and one of our own. */
 #define JESPURLA_NOERROR 0
 #define JESPURLA_NXDOMAIN 3
 #define JESPURLA_YXDOMAIN 6
@@ -245,61 +417,85 @@ typedef struct {
 typedef struct {
     uint32_t refusal;
     uint32_t answer;
-    jespurla_zone zone;
+} jespurla_request_answer;
+
+typedef struct {
+    uint32_t refusal;
+    uint32_t answer;
+    jespurla_zone zone; /* the zone after the request; beside a refusal the very one handed in */
 } jespurla_answered;
 
 /*
- * The requests of RFC 4703 by value, each tested and done at once.
- *
- * zone: the zone as the call before returned it.
+ * zone, length: the zone and its size; a request changes it where it lies. By value, the zone as the
+ * call before returned it.
  * name: a full name. dhcid: who asks.
  * family, address: the address that is added or deleted.
- * policy: of B alone, what becomes of the name's other addresses.
+ * policy: of B alone.
  *
- * Result: refusal 0, the answer, and the zone after the request, which a request that doesn't succeed
- * has not changed; or a refusal, answer 0, and the very zone that was handed in.
- * Refusals of each, the first that applies: 17 the zone breaks its form (a kind not listed, a name
- * that is not full, two equal names, a count over 4, two equal addresses of a name); 18 a family or
- * policy not listed; 11 a name that is not full.
- * Promise: the refusal and the answer are those that the rules give, and so are the names, owners and
- * addresses of the zone, which is of good form again; at which places they stand is left open. Where
- * by the rules nothing changes, the very zone comes back, every octet of it.
+ * Refusals of each: 17 the zone breaks its form or, lent, the length is not that of a zone; 18 a
+ * family or policy not listed; 11 a name that is not full.
+ *
+ * What changes: a request that does not answer NOERROR changes nothing. Names, owners and addresses
+ * are afterwards those of the rule below, and the zone keeps its form; which place a new name gets is
+ * left open. At most one entry of a lent zone is written, and no octet of another changes. Where by
+ * the rule nothing changes, every octet of the zone keeps its value: a request that does not succeed,
+ * an address to delete that is not there, an address to add that is there with no other to delete.
  */
 
-/*
- * The check alone, for a caller that sends no request. Where there is no policy, pass 0.
- *
- * Result: the refusal that a request with these would get, 0 for none.
- * Promise: the number is the first of the refusals above that applies.
- */
-uint32_t jespurla_zone_check(jespurla_zone zone, jespurla_name name, uint8_t family, uint8_t policy);
+/* A: adds an absent name, held by the DHCID, with the address. YXDOMAIN where the name is there;
+ * NO_ROOM where it would be the 65th. */
+jespurla_request_answer jespurla_request_a_lent(jespurla_zone *zone, size_t length,
+                                                jespurla_name name, jespurla_dhcid dhcid,
+                                                uint8_t family, jespurla_address address);
 
-/* A: adds an absent name with the DHCID and the address. YXDOMAIN where the name is there; NO_ROOM
- * where it would be the 65th. */
 jespurla_answered jespurla_request_a(jespurla_zone zone, jespurla_name name, jespurla_dhcid dhcid,
                                      uint8_t family, jespurla_address address);
 
-/* B: at a name that the DHCID holds, deletes by policy, then adds the address unless present.
+/* B: at a name that the DHCID holds, deletes by policy, then adds the address unless it is there.
  * NXDOMAIN where the name is absent; NXRRSET where it is static or held by another; NO_ROOM where
- * the address would be the fifth of its family. */
+ * after the deletes the address would be the fifth of its family. */
+jespurla_request_answer jespurla_request_b_lent(jespurla_zone *zone, size_t length,
+                                                jespurla_name name, jespurla_dhcid dhcid,
+                                                uint8_t family, jespurla_address address,
+                                                uint8_t policy);
+
 jespurla_answered jespurla_request_b(jespurla_zone zone, jespurla_name name, jespurla_dhcid dhcid,
                                      uint8_t family, jespurla_address address, uint8_t policy);
 
-/* The first remove request: at a name that the DHCID holds, deletes the address if it is there.
- * NXRRSET where the DHCID does not hold the name. */
+/* The first remove request: at a name that the DHCID holds, deletes the address if it is there; the
+ * name stays. NXRRSET where the DHCID does not hold the name. */
+jespurla_request_answer jespurla_request_remove_address_lent(jespurla_zone *zone, size_t length,
+                                                             jespurla_name name,
+                                                             jespurla_dhcid dhcid, uint8_t family,
+                                                             jespurla_address address);
+
 jespurla_answered jespurla_request_remove_address(jespurla_zone zone, jespurla_name name,
                                                   jespurla_dhcid dhcid, uint8_t family,
                                                   jespurla_address address);
 
 /* The second remove request: deletes a name that the DHCID holds and that has no address. NXRRSET
  * where the DHCID does not hold the name, YXRRSET where it does and an address is left. */
+jespurla_request_answer jespurla_request_remove_name_lent(jespurla_zone *zone, size_t length,
+                                                          jespurla_name name, jespurla_dhcid dhcid,
+                                                          uint8_t family, jespurla_address address);
+
 jespurla_answered jespurla_request_remove_name(jespurla_zone zone, jespurla_name name,
                                                jespurla_dhcid dhcid, uint8_t family,
                                                jespurla_address address);
 
+/* ---- Jobs of RFC 4703: requests sent one step at a time */
+
 /*
- * A job of RFC 4703: it sends its requests one step at a time, so that the steps of several boxes may
- * be mixed on one zone.
+ * The stages of a job, and where an answer leads it. The steps of several boxes may be mixed on one
+ * zone in any way.
+ *
+ * An add gives a name an address. It sends A first.
+ *   before A:  NOERROR ends it done; YXDOMAIN leads to before B; NO_ROOM ends it no room.
+ *   before B:  NOERROR ends it done; NXDOMAIN leads back to before A, or, where it was the sixth
+ *              request, ends it gave up; NXRRSET ends it conflict; NO_ROOM ends it no room.
+ * A remove takes an address away, and the name with the last one.
+ *   before its first request:   NOERROR leads to before the second; NXRRSET ends it not ours.
+ *   before its second request:  NOERROR ends it gone; anything else ends it kept.
  */
 #define JESPURLA_ADD_BEFORE_A 1
 #define JESPURLA_ADD_BEFORE_B 2
@@ -325,23 +521,15 @@ typedef struct {
 
 typedef struct {
     uint32_t refusal;
-    jespurla_job job;
+    jespurla_job job; /* beside a refusal zeros, which no step takes */
 } jespurla_new_job;
-
-typedef struct {
-    uint32_t refusal;
-    jespurla_zone zone;
-    jespurla_job job;
-} jespurla_stepped;
 
 /*
  * A fresh add, or a fresh remove, that has sent nothing yet.
  *
  * name, dhcid, family, address, policy: what its requests will have.
  *
- * Result: refusal 0 and the job; or a refusal, and a job of zeros, which no step takes.
- * Refusals, the first that applies: 18 a family or policy not listed; 11 a name that is not full.
- * Promise: the refusal and every field of the job are those that the rules give.
+ * Refusals: 18 a family or policy not listed; 11 a name that is not full.
  */
 jespurla_new_job jespurla_new_add(jespurla_name name, jespurla_dhcid dhcid, uint8_t family,
                                   jespurla_address address, uint8_t policy);
@@ -350,75 +538,40 @@ jespurla_new_job jespurla_new_remove(jespurla_name name, jespurla_dhcid dhcid, u
                                      jespurla_address address);
 
 /*
- * One step of a job by value: the one request that its stage asks for, tested and done at once on the
- * zone, and where the answer leads the job. An add starts with A; YXDOMAIN leads to B, NXDOMAIN back
- * to A; it ends done, in conflict, without room, or, where its sixth request says NXDOMAIN, having
- * given up. A remove sends its two requests. A job that has ended changes nothing.
- *
- * zone: the zone as the call before returned it, whoever made that call.
- * job: the job as a new job call or its own last step returned it.
- *
- * Result: refusal 0, the zone and the job after the step; or a refusal.
- * Refusals, the first that applies: 17 the zone breaks its form; 18 a stage, family or policy not
- * listed, or a count that the stage can't have; 11 a name that is not full. A refused step returns
- * the very zone and job that it was handed.
- * Promise: the refusal, the job, and the names, owners and addresses of the zone are those that the
- * rules give; where by the rules the zone does not change, every octet of it comes back. Of all the
- * steps together: however the steps of any jobs are mixed, some order of the whole jobs, adds without
- * room and those that gave up left out, ends with the same zone and the same answer to every add
- * (docs/DEMAND-3.md).
+ * Whether a job has ended: 1 where its stage is done, conflict, no room, gave up, not ours, gone or
+ * kept, and 0 at any other. Only the stage is looked at.
  */
-jespurla_stepped jespurla_job_step(jespurla_zone zone, jespurla_job job);
-
-/* What a request, and a step, on a lent zone answer. */
-typedef struct {
-    uint32_t refusal;
-    uint32_t answer;
-} jespurla_request_answer;
+uint8_t jespurla_job_has_ended(jespurla_job job);
 
 typedef struct {
     uint32_t refusal;
-    jespurla_job job;
+    jespurla_job job; /* the job after the step; beside a refusal the very one handed in */
 } jespurla_step_answer;
 
+typedef struct {
+    uint32_t refusal;
+    jespurla_zone zone; /* as job */
+    jespurla_job job;
+} jespurla_stepped;
+
 /*
- * The check, the requests and the step on a zone that is lent, which they read and change where it
- * lies. These are the calls for a zone that is kept: no zone is copied, and they need little stack.
- * They differ from the calls by value, whose arguments they take, in the following alone.
+ * One step of a job: the one request that its stage asks for, tested and done at once on the zone, and
+ * where the answer leads the job. A job that has ended changes nothing. On a lent zone, and by value;
+ * steps of both kinds may be mixed on one zone.
  *
- * zone, length: the zone and its size, sizeof(jespurla_zone). The check only reads it.
+ * zone, length: the zone and its size, whoever wrote it last.
+ * job: the job as a new job call or its own last step returned it.
  *
- * Result: no zone comes back; what a request or a step has changed stands in the lent one.
- * Refusal: 17 also where length is not 23,936; no octet is then looked at.
- * Promise: the refusal, the answer and the job are those of the call by value on the zone that the
- * octets hold, and so are the names, owners and addresses that they hold after it. At most one entry
- * is written, and no octet of another changes. Every octet keeps its value where the call is refused
- * or where by the rules nothing changes: a request that doesn't succeed, an address to delete that is
- * not there, an address to add that is there with no other to delete, a job that has ended. Steps of
- * both kinds may be mixed on one zone, and what is promised of all steps together holds of them.
+ * Refusals: 17 the zone breaks its form or, lent, the length is not that of a zone; 18 a stage, family
+ * or policy not listed, or a count that the stage can't have; 11 a name that is not full.
+ * What changes is what the request changes, as above. Of all the steps together: however the steps of
+ * any jobs are mixed, some order of the whole jobs, adds without room and those that gave up left out,
+ * ends with the same names, owners and addresses and the same answer to every add: the jobs are
+ * serializable (docs/DEMAND-3.md).
  */
-uint32_t jespurla_zone_check_lent(const jespurla_zone *zone, size_t length, jespurla_name name,
-                                  uint8_t family, uint8_t policy);
-
-jespurla_request_answer jespurla_request_a_lent(jespurla_zone *zone, size_t length,
-                                                jespurla_name name, jespurla_dhcid dhcid,
-                                                uint8_t family, jespurla_address address);
-
-jespurla_request_answer jespurla_request_b_lent(jespurla_zone *zone, size_t length,
-                                                jespurla_name name, jespurla_dhcid dhcid,
-                                                uint8_t family, jespurla_address address,
-                                                uint8_t policy);
-
-jespurla_request_answer jespurla_request_remove_address_lent(jespurla_zone *zone, size_t length,
-                                                             jespurla_name name,
-                                                             jespurla_dhcid dhcid, uint8_t family,
-                                                             jespurla_address address);
-
-jespurla_request_answer jespurla_request_remove_name_lent(jespurla_zone *zone, size_t length,
-                                                          jespurla_name name, jespurla_dhcid dhcid,
-                                                          uint8_t family, jespurla_address address);
-
 jespurla_step_answer jespurla_job_step_lent(jespurla_zone *zone, size_t length, jespurla_job job);
+
+jespurla_stepped jespurla_job_step(jespurla_zone zone, jespurla_job job);
 
 #ifdef __cplusplus
 }
