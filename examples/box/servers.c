@@ -5,6 +5,9 @@
 
 static void print_list(const jespurla_server_list_state *list)
 {
+    printf("  ");
+    print_count(list->count, "server");
+    puts("");
     for (size_t i = 0; i < list->count; i++) {
         printf("    ");
         print_address6(list->entries[i].address);
@@ -15,37 +18,42 @@ static void print_list(const jespurla_server_list_state *list)
     }
 }
 
-/* An area taken into the list at a moment; what the list is then. */
+/*
+ * An area taken into the list at a moment. A refused area is the router's fault: the host drops it
+ * and keeps its list. Any other refusal is about the host's list or clock; read a clock that never
+ * goes back, such as CLOCK_MONOTONIC.
+ */
 static void take(jespurla_server_list_state *list, uint64_t seconds,
                  const uint8_t *area, size_t length)
 {
     jespurla_moment now = { seconds };
     jespurla_server_list_answer answer = jespurla_server_list(*list, now, area, length);
-    printf("  ");
-    if (answer.refusal != 0) {
+
+    if (answer.refusal == JESPURLA_REFUSED_AREA) {
+        printf("  ");
         print_refusal(answer.refusal);
-        puts(", and the list stays");
+        puts("\n  the advertisement is dropped");
         return;
     }
+    stop_if_refused("jespurla_server_list", answer.refusal);
     *list = answer.list;
-    print_count(list->count, "server");
-    puts("");
     print_list(list);
 }
 
-/* The options of a router advertisement, from a file. */
+/* The options of a router advertisement. */
 static void announce(jespurla_server_list_state *list, uint64_t seconds, const char *file,
                      const char *what)
 {
-    box_message area = box_read(file);
+    message area = read_message(file);
     printf("At %llu %s, %zu octets: %s\n", (unsigned long long)seconds, file, area.length, what);
     take(list, seconds, area.octets, area.length);
 }
 
-/* No advertisement: an area of no octets only moves the clock. */
+/* No advertisement: an area of no octets only drops what has expired. A pointer is never null, not
+ * even one to nothing. */
 static void wait_until(jespurla_server_list_state *list, uint64_t seconds, const char *what)
 {
-    static const uint8_t nothing[1] = { 0 };
+    static const uint8_t nothing[1];
     printf("At %llu no router speaks: %s\n", (unsigned long long)seconds, what);
     take(list, seconds, nothing, 0);
 }
