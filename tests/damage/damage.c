@@ -1,7 +1,8 @@
 /*
- * Calls of the library with damaged input, a bounded number of them from a fixed seed: random octets
- * in every argument, and sound ones with a few octets changed, so that deep paths are reached too.
- * Every lent buffer ends at an unreadable page, and in a second pass starts right behind one.
+ * Calls of the library with damaged input, a bounded number of them from a fixed seed: random
+ * octets in every argument, and sound ones with a few octets changed, so that deep paths are
+ * reached too. Every lent buffer ends at an unreadable page, and in a second pass starts right
+ * behind one; what a call only reads lies on pages that can't be written.
  */
 #include "damage.h"
 
@@ -9,6 +10,13 @@
 
 #define SEED UINT64_C(0x5eed4703)
 #define TURNS 6000
+
+static void turn_version(void)
+{
+    static const uint32_t none[] = { 0 };
+    must(jespurla_version() == JESPURLA_VERSION, "the library is not of the header's version");
+    tally_count(VERSION, 0, 0, none);
+}
 
 static void pass(side chosen)
 {
@@ -20,6 +28,8 @@ static void pass(side chosen)
         turn_zones();
         turn_jobs();
         turn_lent();
+        turn_lookups();
+        turn_version();
     }
 }
 

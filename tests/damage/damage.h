@@ -18,12 +18,16 @@ void damage_octets(void *octets, size_t length);
 
 /* lend.c: memory that ends, or starts, at an unreadable page. */
 typedef enum { AT_THE_END, AT_THE_START } side;
-typedef enum { VALUE, SUFFIX, AREA, TABLE, QUERY, REPLY, ZONE, PLACES } place;
+typedef enum { VALUE, SUFFIX, AREA, TABLE, QUERY, REPLY, ZONE, OTHER_ZONE, PLACES } place;
 void lend_open(void);
 void lend_choose(side chosen);
 /* A lent copy of the octets; at most LEND_MOST. */
 #define LEND_MOST 49152
 uint8_t *lend(place where, const void *octets, size_t length);
+/* The same for a call that only reads: until the place is lent again it can't be written. */
+const uint8_t *lend_to_read(place where, const void *octets, size_t length);
+/* A mebioctet of which nothing can be read or written, at the start of a page. */
+const void *lend_nothing(void);
 /* Fails where an octet from `kept` on, or a guard octet beside the lent ones, is not as it was. */
 void lend_check(place where, size_t kept);
 /* Fails where more than one row of so many octets, or a guard octet, is not as it was. */
@@ -49,14 +53,19 @@ typedef enum {
     REMOVE_ADDRESS_LENT,
     REMOVE_NAME_LENT,
     JOB_STEP_LENT,
+    ZONE_FIND,
+    ZONE_SAME,
+    JOB_HAS_ENDED,
+    VERSION,
     CALLS
 } call;
 /* Ends the program where what has to hold does not. */
 void must(bool holds, const char *what);
-/* Counts a refusal, which must be one of the list that 0 ends; where it is 0, an answer of this kind
- * (at most 256). */
+/* Counts a refusal, which must be one of the list that 0 ends; where it is 0, an answer of this
+ * kind (at most 256). */
 void tally_count(call which, uint32_t refusal, uint32_t kind, const uint32_t *listed);
-/* Prints the table; whether every call was answered, and met each of its refusals. */
+/* Prints the table; whether every call was answered, and met each of its refusals. A call that has
+ * none has an empty list. */
 bool tally_report(void);
 
 /* inputs.c: names in octets, sound mostly. The length, at most 300. */
@@ -75,10 +84,15 @@ void turn_leases(void);
 void turn_zones(void);
 void turn_jobs(void);
 void turn_lent(void);
+void turn_lookups(void);
 
 /* zones.c: a zone that is sound mostly, and the refusals of what reads one. */
 extern const uint32_t zone_refusals[];
 const jespurla_zone *some_zone(void);
+/* Octets to lend of a zone: it comes first, and any octets follow, LEND_MOST in all. */
+const uint8_t *zone_octets(const jespurla_zone *zone);
+/* A number of octets that no zone has. */
+size_t some_wrong_length(void);
 /* Takes over the zone that an unrefused call has left, which must be sound. */
 void leave_zone(const jespurla_zone *zone);
 /* What a request carries; the policy is B's. */
@@ -96,5 +110,7 @@ jespurla_answered send_by_value(call which, const jespurla_zone *zone, const req
 #define JOBS 8
 jespurla_job some_job(size_t at);
 void leave_job(size_t at, const jespurla_job *job);
+/* Whether a job's stage is one of those that end it, which jespurla_job_has_ended must say too. */
+bool has_ended(const jespurla_job *job);
 
 #endif

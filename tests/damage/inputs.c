@@ -3,8 +3,8 @@
 
 #include <string.h>
 
-/* A label of some octets at the front of a name with `left` octets of room; its size with its length
- * octet, 0 where there is no room. */
+/* A label of some octets at the front of a name with `left` octets of room; its size with its
+ * length octet, 0 where there is no room. */
 static size_t some_label(uint8_t *at, size_t left)
 {
     size_t most = left < 2 ? 0 : left - 1 < 63 ? left - 1 : 63;

@@ -1,4 +1,4 @@
-/* New jobs, and job steps by value. */
+/* New jobs, the end of jobs, and job steps by value. */
 #include "damage.h"
 
 #include <string.h>
@@ -46,6 +46,27 @@ void leave_job(size_t at, const jespurla_job *job)
     jobs[at] = *job;
 }
 
+bool has_ended(const jespurla_job *job)
+{
+    static const uint32_t none[] = { 0 };
+    bool ended = (job->stage >= JESPURLA_ADD_DONE && job->stage <= JESPURLA_ADD_GAVE_UP) ||
+                 (job->stage >= JESPURLA_REMOVE_NOT_OURS && job->stage <= JESPURLA_REMOVE_KEPT);
+    uint8_t told = jespurla_job_has_ended(*job);
+    tally_count(JOB_HAS_ENDED, 0, told, none);
+    must(told == ended, "an end that is none, or one that was missed");
+    return ended;
+}
+
+/* Whatever the rest of the job is, the stage tells. */
+static void turn_end(void)
+{
+    jespurla_job job;
+    random_fill(&job, sizeof job);
+    if (one_in(2))
+        job.stage = (uint8_t)random_below(17);
+    has_ended(&job);
+}
+
 static void turn_step(void)
 {
     static jespurla_stepped stepped;
@@ -70,4 +91,5 @@ void turn_jobs(void)
     turn_new(NEW_REMOVE);
     turn_step();
     turn_step();
+    turn_end();
 }

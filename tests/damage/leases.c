@@ -93,17 +93,19 @@ static size_t some_query(uint8_t *query)
     return length;
 }
 
-static void ask(const jespurla_lease *records, size_t count)
+/* A query over these records, and what it must not touch. */
+static jespurla_lease_answer ask(jespurla_moment clock, const jespurla_lease *records, size_t count)
 {
     static const uint32_t listed[] = { 15, 9, 8, 1, 2, 3, 4, 5, 6, 7, 0 };
     uint8_t query[PACKET_ROOM], reply[800];
     size_t query_length = some_query(query);
-    size_t reply_length = one_in(16) ? random_below(800) : 648 + random_below(4);
+    size_t reply_length =
+        one_in(16) ? random_below(800) : JESPURLA_LEASE_REPLY_MIN + random_below(4);
     jespurla_lease_answer answer;
 
     random_fill(reply, reply_length);
-    answer = jespurla_lease_query(some_moment(), records, count, (uint32_t)random_next(),
-                                  lend(QUERY, query, query_length), query_length,
+    answer = jespurla_lease_query(clock, records, count, (uint32_t)random_next(),
+                                  lend_to_read(QUERY, query, query_length), query_length,
                                   lend(REPLY, reply, reply_length), reply_length);
     tally_count(LEASE_QUERY, answer.refusal, answer.kind, listed);
     if (answer.refusal == 0)
@@ -112,6 +114,7 @@ static void ask(const jespurla_lease *records, size_t count)
         must(answer.kind == 0 && answer.length == 0, "a reply beside a refusal");
     lend_check(QUERY, 0);
     lend_check(REPLY, answer.length);
+    return answer;
 }
 
 /* The first records of the table, at times with a few octets of one changed, seldom all. */
@@ -123,14 +126,33 @@ static const jespurla_lease *some_table(size_t count)
         damage_octets(&given[random_below(count)], sizeof *given);
     if (one_in(64))
         random_fill(given, count * sizeof *given);
-    return (const jespurla_lease *)(const void *)lend(TABLE, given, count * sizeof *given);
+    return (const void *)lend_to_read(TABLE, given, count * sizeof *given);
 }
 
-void turn_leases(void)
+static void turn_table(void)
 {
     size_t count = one_in(32) ? 256 + random_below(3) : random_below(one_in(4) ? 257 : 20);
     if (table[0].address == 0 || one_in(64))
         make_table();
-    ask(some_table(count), count);
+    ask(some_moment(), some_table(count), count);
     lend_check(TABLE, 0);
+}
+
+/* More records than a table may have, where none can be read: only the clock is refused before. */
+static void turn_count(void)
+{
+    const size_t least = JESPURLA_LEASES_MAX + 1, most = SIZE_MAX / sizeof(jespurla_lease);
+    size_t drawn = one_in(2) ? random_below(1000) : random_below(most - least);
+    size_t count = one_in(4) ? least : one_in(4) ? most : least + drawn;
+    jespurla_moment clock = some_moment();
+    uint32_t refusal = clock.seconds > JESPURLA_LATEST ? JESPURLA_REFUSED_CLOCK
+                                                       : JESPURLA_REFUSED_LEASE_TABLE;
+
+    must(ask(clock, lend_nothing(), count).refusal == refusal, "a table of over 256 records");
+}
+
+void turn_leases(void)
+{
+    turn_table();
+    turn_count();
 }

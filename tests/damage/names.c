@@ -10,10 +10,11 @@ static uint8_t some_honour(void)
 static void turn_flags(void)
 {
     static const uint32_t listed[] = { 10, 0 };
-    uint32_t number = jespurla_flag_decision((uint8_t)random_next(), some_honour(), some_honour());
-    uint32_t result = JESPURLA_RESULT(number);
-    tally_count(FLAG_DECISION, JESPURLA_REFUSAL(number), result, listed);
-    must(result == 0 || (JESPURLA_REFUSAL(number) == 0 && (result == 1 || result == 2 || result == 4)),
+    jespurla_flag_answer answer =
+        jespurla_flag_decision((uint8_t)random_next(), some_honour(), some_honour());
+    uint32_t flags = answer.flags;
+    tally_count(FLAG_DECISION, answer.refusal, flags, listed);
+    must(flags == 0 || (answer.refusal == 0 && (flags == 1 || flags == 2 || flags == 4)),
          "flags that are no answer");
 }
 
@@ -45,23 +46,22 @@ static void turn_answer(void)
     static const uint32_t listed[] = { 14, 10, 11, 12, 13, 0 };
     uint8_t value[301], suffix[300], reply[400];
     size_t value_length = some_value(value), suffix_length = some_suffix(suffix);
-    size_t reply_length = one_in(8) ? random_below(400) : 256 + random_below(4);
-    uint32_t number, written;
+    size_t reply_length =
+        one_in(8) ? random_below(400) : JESPURLA_NAME_REPLY_MIN + random_below(4);
+    jespurla_name_answer answer;
     uint8_t *lent;
 
     random_fill(reply, reply_length);
     lent = lend(REPLY, reply, reply_length);
-    number = jespurla_name_option_answer(lend(VALUE, value, value_length), value_length,
-                                         lend(SUFFIX, suffix, suffix_length), suffix_length,
-                                         some_honour(), some_honour(),
+    answer = jespurla_name_option_answer(lend_to_read(VALUE, value, value_length), value_length,
+                                         lend_to_read(SUFFIX, suffix, suffix_length),
+                                         suffix_length, some_honour(), some_honour(),
                                          lent, reply_length);
-    written = JESPURLA_RESULT(number);
-    tally_count(NAME_OPTION_ANSWER, JESPURLA_REFUSAL(number), written == 0 ? 0 : lent[0],
-                listed);
-    must((JESPURLA_REFUSAL(number) == 0) == (written != 0), "a length beside a refusal, or none");
+    tally_count(NAME_OPTION_ANSWER, answer.refusal, answer.refusal != 0 ? 0 : lent[0], listed);
+    must((answer.refusal == 0) == (answer.length != 0), "a length beside a refusal, or none");
     lend_check(VALUE, 0);
     lend_check(SUFFIX, 0);
-    lend_check(REPLY, written);
+    lend_check(REPLY, answer.length);
 }
 
 void turn_names(void)

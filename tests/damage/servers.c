@@ -67,7 +67,7 @@ void turn_servers(void)
 
     if (one_in(16))
         now = some_moment();
-    answer = jespurla_server_list(list, now, lend(AREA, area, length), length);
+    answer = jespurla_server_list(list, now, lend_to_read(AREA, area, length), length);
     tally_count(SERVER_LIST, answer.refusal, (uint32_t)answer.list.count & 0xff, listed);
     lend_check(AREA, 0);
     if (answer.refusal != 0) {

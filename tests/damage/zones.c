@@ -49,13 +49,33 @@ const jespurla_zone *some_zone(void)
     return &given;
 }
 
+const uint8_t *zone_octets(const jespurla_zone *zone)
+{
+    static uint8_t octets[LEND_MOST];
+    if (one_in(256))
+        random_fill(octets + sizeof *zone, sizeof octets - sizeof *zone);
+    memcpy(octets, zone, sizeof *zone);
+    return octets;
+}
+
+/* In turn one of a few and any. */
+size_t some_wrong_length(void)
+{
+    static const size_t few[] = { 0, 1, 373, 23935, 23937 };
+    static size_t turn;
+    size_t at = turn++ % 6, length = random_below(LEND_MOST);
+    if (at < 5)
+        return few[at];
+    return length == sizeof(jespurla_zone) ? 0 : length;
+}
+
 /* The refusal that a request would get. */
 static uint32_t check(const jespurla_zone *zone, const jespurla_name *name, uint8_t family,
                       uint8_t policy)
 {
-    uint32_t refusal = jespurla_zone_check(*zone, *name, family, policy);
-    tally_count(ZONE_CHECK, refusal, 0, zone_refusals);
-    return refusal;
+    jespurla_check_answer answer = jespurla_zone_check(*zone, *name, family, policy);
+    tally_count(ZONE_CHECK, answer.refusal, 0, zone_refusals);
+    return answer.refusal;
 }
 
 void leave_zone(const jespurla_zone *zone)
@@ -87,8 +107,9 @@ jespurla_answered send_by_value(call which, const jespurla_zone *zone, const req
 
 static bool is_answer(uint32_t answer)
 {
-    return answer == JESPURLA_NOERROR || answer == JESPURLA_NXDOMAIN || answer == JESPURLA_YXDOMAIN ||
-           answer == JESPURLA_YXRRSET || answer == JESPURLA_NXRRSET || answer == JESPURLA_NO_ROOM;
+    return answer == JESPURLA_NOERROR || answer == JESPURLA_NXDOMAIN ||
+           answer == JESPURLA_YXDOMAIN || answer == JESPURLA_YXRRSET ||
+           answer == JESPURLA_NXRRSET || answer == JESPURLA_NO_ROOM;
 }
 
 static void turn_request(call which)
@@ -99,7 +120,8 @@ static void turn_request(call which)
 
     answered = send_by_value(which, zone, &q);
     tally_count(which, answered.refusal, answered.answer, zone_refusals);
-    must(check(zone, &q.name, q.family, q.policy) == answered.refusal, "check and request disagree");
+    must(check(zone, &q.name, q.family, q.policy) == answered.refusal,
+         "check and request disagree");
     if (answered.refusal != 0) {
         must(answered.answer == 0, "an answer beside a refusal");
         must(memcmp(&answered.zone, zone, sizeof *zone) == 0, "a refused zone comes back changed");
