@@ -1,17 +1,19 @@
 /*
  * Jespurla: the core of an address box. It answers lease queries (RFC 4388) and the DHCPv6 name
- * option (RFC 4704), keeps the DNS servers that routers announce (RFC 5006), and writes names into a
- * DNS zone that several boxes share (RFC 4703). It opens no sockets and keeps no state of its own.
+ * option (RFC 4704), keeps the DNS servers that routers announce (RFC 5006), and writes names into
+ * a DNS zone that several boxes share (RFC 4703). It opens no sockets and keeps no state of its
+ * own.
  *
- * Every call is proved to meet its promise; docs/PROMISES.md lists the promises and docs/RULES.md the
- * rules. Every call takes every value of its arguments, returns, and reads and writes only what it
- * was lent.
+ * Every call is proved to meet its promise; docs/PROMISES.md lists the promises and docs/RULES.md
+ * the rules. Every call takes every value of its arguments, returns, and reads and writes only what
+ * it was lent.
  *
  * Results. A call that can refuse its input returns a struct whose first field is refusal: 0 for
  * none, or a number of jespurla_refusals.def, which has a constant JESPURLA_REFUSED_... and a text.
- * Test it before anything else of the struct. Beside a refusal the other numbers are 0, and every
- * buffer, list, zone and job is as it was before the call. Each call says below which refusals it
- * has, in the order in which they are tried: the first that applies is given.
+ * Test it before anything else of the struct. Beside a refusal the other numbers are 0, a found
+ * entry and a new job are zeros, and every buffer, list, zone and job that was lent or handed in is
+ * as it was before the call. Each call says below which refusals it has, in the order in which they
+ * are tried: the first that applies is given.
  *
  * What a caller owes.
  *  - A pointer that goes with a length or a count points to as many octets or records, and is not
@@ -20,15 +22,15 @@
  *    else writes what it was lent or reads what it writes.
  *  - Stack enough, as follows.
  *
- * Stack. The library alone takes under 6 KiB in every call but those that take a zone by value; 16
- * KiB are enough for those calls with the caller's own copies of names and jobs. A call that takes a
- * zone by value takes up to 104 KiB itself, and 160 KiB with the copies that its caller makes of the
- * zone that goes in and the one that comes out: give it 256 KiB. The threads of musl have 128 KiB
- * unless told otherwise, which is not enough for those: lend the zone.
+ * Stack. A call that takes no zone by value takes under 6 KiB itself; 16 KiB are enough for it with
+ * the copies that its caller makes of names and jobs. A call that takes a zone by value takes up to
+ * 104 KiB itself, and 160 KiB with the copies that its caller makes of the zone that goes in and
+ * the one that comes out: give it 256 KiB. The threads of musl have 128 KiB unless told otherwise,
+ * which is not enough for those: lend the zone.
  *
- * Threads. No call keeps anything from one call to the next, in memory or elsewhere, so calls may run
- * at the same time on different memory, and calls that only read may share what they read. Calls that
- * write one zone or one buffer are to be made one after the other.
+ * Threads. No call keeps anything from one call to the next, in memory or elsewhere, so calls may
+ * run at the same time on different memory, and calls that only read may share what they read.
+ * Calls that write one zone or one buffer are to be made one after the other.
  *
  * What the archive needs: memcpy, memmove and memset of a C library or of your own, and a stack. It
  * allocates nothing and reads neither clock nor files.
@@ -132,8 +134,8 @@ typedef struct {
  * honour_s, honour_n: whether S, or N, may be honoured: 0 is no, any other number yes.
  *
  * The rule: the answer starts with no bit. Where the client sets N and N may be honoured, it is N.
- * Where the client sets S and S may be honoured, it is S; where it sets S and S may not, it is O, since
- * the server has overridden the client's wish. In every other case it stays without a bit.
+ * Where the client sets S and S may be honoured, it is S; where it sets S and S may not, it is O,
+ * since the server has overridden the client's wish. In every other case it stays without a bit.
  * Refusals: 10 O is set, or S and N both.
  */
 jespurla_flag_answer jespurla_flag_decision(uint8_t flags, uint8_t honour_s, uint8_t honour_n);
@@ -151,15 +153,16 @@ typedef struct {
  * honour_s, honour_n: as above.
  * reply, reply_length: where the answer goes; at least JESPURLA_NAME_REPLY_MIN octets.
  *
- * The rule: a name is labels of 1 to 63 octets, each behind its length. It is full where a 0 ends it
- * and nothing follows, at most 255 octets in all; partial where the field ends behind a label, at most
- * 254; anything else, a lone 0 among it, is malformed. The answer is the flags octet of the decision
- * above and the name: a full name octet for octet, a partial one with the suffix behind it. The octets
- * of reply past the answer keep their values.
+ * The rule: a name is labels of 1 to 63 octets, each behind its length. It is full where a 0 ends
+ * it and nothing follows, at most 255 octets in all; partial where the field ends behind a label,
+ * at most 254; anything else, a lone 0 among it, is malformed. The answer is the flags octet of the
+ * decision above and the name: a full name octet for octet, a partial one with the suffix behind
+ * it. The octets of reply past the answer keep their values.
  * Refusals: 14 reply too short; 10 value empty, or its flags refused; 11 suffix not a full name; 12
  * name empty; 11 name malformed; 13 completed name over 255 octets.
- * A server that gets a refusal about the client's option (10 to 13) sends its reply without a name
- * option, or asks its own configuration for a name where the name was empty (12).
+ * A server that gets 10 to 13 for the client's option sends its reply without a name option, or
+ * asks its own configuration for a name where the name was empty (12). A suffix that is not full is
+ * refused with 11 for every client: jespurla_zone_check_lent tests it beforehand.
  */
 jespurla_name_answer jespurla_name_option_answer(const uint8_t *value, size_t value_length,
                                                  const uint8_t *suffix, size_t suffix_length,
@@ -197,18 +200,19 @@ typedef struct {
  * area, area_length: the options of a router advertisement, one behind the other.
  *
  * The rule: first every server goes whose expiry is less than the clock: at its expiry a server is
- * still there, a second later it is gone. Then the options act in turn. One acts where its Type is 25
- * and its Length, in units of 8 octets, is odd and at least 3; of its addresses the first three count,
- * and all have its Lifetime. Other options do nothing. With Lifetime 0 an address is taken off the
- * list, if it is there. With any other an address that is there gets the expiry clock + Lifetime (at
- * most JESPURLA_LATEST, and JESPURLA_NEVER where the Lifetime is all ones) and keeps its place. One
- * that is not there is put in with that expiry: ahead of all servers that this option did not put in,
- * behind those that it did. Where the list has eight already, the one that expires first goes before
- * (never is last; of several the one furthest back).
+ * still there, a second later it is gone. Then the options act in turn. One acts where its Type is
+ * 25 and its Length, in units of 8 octets, is odd and at least 3; of its addresses the first three
+ * count, and all have its Lifetime. Other options do nothing. With Lifetime 0 an address is taken
+ * off the list, if it is there. With any other an address that is there gets the expiry clock +
+ * Lifetime (at most JESPURLA_LATEST, and JESPURLA_NEVER where the Lifetime is all ones) and keeps
+ * its place. One that is not there is put in with that expiry: ahead of all servers that this
+ * option did not put in, behind those that it did. Where the list has eight already, the one that
+ * expires first is dropped to make room (never is last; of several the one furthest back).
  * Refusals: 31 list with a count over 8, two entries of one address, an expiry that is neither a
  * moment nor never, or a clock above JESPURLA_LATEST; 15 clock above JESPURLA_LATEST or behind the
- * list's; 16 area over JESPURLA_AREA_MAX octets, or with an option of Length 0 or one past the end. The
- * area is tested whole before anything of it is applied. A host that gets 16 drops the advertisement.
+ * list's; 16 area over JESPURLA_AREA_MAX octets, or with an option of Length 0 or one past the end.
+ * The area is tested whole before anything of it is applied. A host that gets 16 drops the
+ * advertisement.
  */
 jespurla_server_list_answer jespurla_server_list(jespurla_server_list_state list,
                                                  jespurla_moment clock,
@@ -220,21 +224,21 @@ jespurla_server_list_answer jespurla_server_list(jespurla_server_list_state list
 #define JESPURLA_LEASE_LEASED 1
 
 /*
- * A record of the lease table. It is active where its state is leased and its expiry is never or later
- * than now: at the very moment of its expiry it is not.
+ * A record of the lease table. It is active where its state is leased and its expiry is never or
+ * later than now: at the very moment of its expiry it is not.
  */
 typedef struct {
-    jespurla_moment last;   /* the last transaction */
-    jespurla_moment expiry; /* a moment, or JESPURLA_NEVER */
+    jespurla_moment last;                  /* the last transaction */
+    jespurla_moment expiry;                /* a moment, or JESPURLA_NEVER */
     uint8_t chaddr[JESPURLA_HARDWARE_MAX]; /* the hardware address: zeros from hlen on */
-    uint8_t id[JESPURLA_CLIENT_ID_MAX];    /* the client id; octets from idlen on are not looked at */
-    uint8_t relay[JESPURLA_RELAY_MAX]; /* relay agent information; from relaylen on not looked at */
-    uint32_t address;       /* as a number: 10.0.0.1 is 0x0a000001 */
-    uint8_t state;          /* JESPURLA_LEASE_FREE or JESPURLA_LEASE_LEASED */
-    uint8_t htype;          /* 0 where hlen is 0 */
-    uint8_t hlen;           /* 0 to 16 */
-    uint8_t idlen;          /* 0, or 2 to 64 */
-    uint8_t relaylen;       /* 0 to 64 */
+    uint8_t id[JESPURLA_CLIENT_ID_MAX];    /* the client id; from idlen on not looked at */
+    uint8_t relay[JESPURLA_RELAY_MAX];     /* relay information; from relaylen on not looked at */
+    uint32_t address;                      /* as a number: 10.0.0.1 is 0x0a000001 */
+    uint8_t state;                         /* JESPURLA_LEASE_FREE or JESPURLA_LEASE_LEASED */
+    uint8_t htype;                         /* 0 where hlen is 0 */
+    uint8_t hlen;                          /* 0 to 16 */
+    uint8_t idlen;                         /* 0, or 2 to 64 */
+    uint8_t relaylen;                      /* 0 to 64 */
 } jespurla_lease;
 
 /* The kinds of reply. */
@@ -252,32 +256,34 @@ typedef struct {
  * The reply to a DHCPv4 lease query.
  *
  * clock: now.
- * table, count: the lease table, at most JESPURLA_LEASES_MAX records, addresses nonzero and strictly
- * rising. It is only read, and not at all where the count is above that.
+ * table, count: the lease table, at most JESPURLA_LEASES_MAX records, addresses nonzero and
+ * strictly rising. It is only read, and not at all where the count is above that.
  * server: this server's address, as a number.
  * query, query_length: the packet.
  * reply, reply_length: where the reply goes; at least JESPURLA_LEASE_REPLY_MIN octets.
  *
- * The rule: a query has one key. A ciaddr that is not zero asks by address; a hardware address (htype,
- * hlen and the first hlen octets of chaddr) or a client id (option 61) asks by client.
+ * The rule: a query has one key. A ciaddr that is not zero asks by address. A hardware key, which
+ * is there where any octet of htype, hlen or chaddr is not zero, asks by client: the one with the
+ * same htype, hlen and first hlen octets of chaddr. A client id (option 61) asks by client too; one
+ * over JESPURLA_CLIENT_ID_MAX octets is nobody's.
  *  - By address: LEASEACTIVE where the address has an active record, LEASEUNASSIGNED where it has a
  *    record that is not active, LEASEUNKNOWN where it has none.
- *  - By client: LEASEACTIVE where the client has an active lease, about the one with the latest last
- *    transaction (of several the lowest address); else LEASEUNKNOWN, and only then. Never
+ *  - By client: LEASEACTIVE where the client has an active lease, about the one with the latest
+ *    last transaction (of several the lowest address); else LEASEUNKNOWN, and only then. Never
  *    LEASEUNASSIGNED.
- * The reply copies xid, flags and giaddr. Of an active lease it has ciaddr, htype, hlen and chaddr of
- * the record, the seconds left (51; all ones for never), the client id (61) and relay information (82)
- * if there are any, the seconds since the last transaction (91), and, by client with two or more
- * active leases, their addresses, the latest first, at most 63 (92). Otherwise those fields are the
- * query's. Option 53 has the kind and 54 the server's address. The octets of reply past it keep their
- * values.
- * Refusals: 15 clock above JESPURLA_LATEST; 9 the table breaks its form; 8 reply too short; 1 packet
- * under JESPURLA_PACKET_MIN or over JESPURLA_PACKET_MAX octets, or a wrong cookie; 2 op not 1; 3
- * options past the end, no end option, or 53 or 61 twice; 4 option 53 absent, not one octet or not 10;
- * 5 giaddr zero; 6 not exactly one key; 7 hardware key with hlen 0 or above 16, or a client id of 0 or
- * 1 octets.
- * A server that gets 1 to 7 drops the packet and sends nothing; 8, 9 and 15 are about its own memory
- * and clock.
+ * The reply copies xid, flags and giaddr. Of an active lease it has ciaddr, htype, hlen and chaddr
+ * of the record, the seconds left (51; all ones for never), the client id (61) and relay
+ * information (82) if there are any, the seconds since the last transaction (91), and, by client
+ * with two or more active leases, their addresses, the latest first, at most 63 (92). In any other
+ * reply ciaddr, htype, hlen and chaddr are the query's. Option 53 has the kind and 54 the server's
+ * address. The octets of reply past it keep their values.
+ * Refusals: 15 clock above JESPURLA_LATEST; 9 the table breaks its form; 8 reply too short; 1
+ * packet under JESPURLA_PACKET_MIN or over JESPURLA_PACKET_MAX octets, or a wrong cookie; 2 op not
+ * 1; 3 options past the end, no end option, or 53 or 61 twice; 4 option 53 absent, not one octet or
+ * not 10; 5 giaddr zero; 6 not exactly one key; 7 hardware key with hlen 0 or above 16, or a client
+ * id of 0 or 1 octets.
+ * A server that gets 1 to 7 drops the packet and sends nothing; 8, 9 and 15 are about its own
+ * memory and clock.
  */
 jespurla_lease_answer jespurla_lease_query(jespurla_moment clock,
                                            const jespurla_lease *table, size_t count,
@@ -289,9 +295,9 @@ jespurla_lease_answer jespurla_lease_query(jespurla_moment clock,
 
 /*
  * Every struct of a zone is made of octets alone, so it has no gaps: an entry has 374 octets and a
- * zone 23,936. Wherever a zone is kept, lend it: the calls whose names end in _lent, jespurla_zone_find
- * and jespurla_zone_same take a pointer and the size, copy no zone and need little stack. The others
- * take the zone by value and hand the next one back.
+ * zone 23,936. Wherever a zone is kept, lend it: the calls whose names end in _lent,
+ * jespurla_zone_find and jespurla_zone_same take a pointer and the size, copy no zone and need
+ * little stack. The others take the zone by value and hand the next one back.
  */
 
 /* A domain name as it stands in a message; octets from length on are not looked at. */
@@ -335,8 +341,8 @@ typedef struct {
 
 /*
  * A zone of zeros is empty. Which place a name has does not matter, and freed places serve again. A
- * zone breaks its form where an entry has a kind not listed, a name that is not full, a count over 4
- * or two equal addresses, or where two names are equal. Names are equal where their octets are.
+ * zone breaks its form where an entry has a kind not listed, a name that is not full, a count over
+ * 4 or two equal addresses, or where two names are equal. Names are equal where their octets are.
  */
 typedef struct {
     jespurla_entry entries[JESPURLA_NAMES_MAX];
@@ -351,7 +357,7 @@ typedef struct {
 
 typedef struct {
     uint32_t refusal;
-    jespurla_entry entry;
+    jespurla_entry entry; /* zeros where the name is absent, and beside a refusal */
 } jespurla_find_answer;
 
 /*
@@ -380,8 +386,8 @@ typedef struct {
  * left, left_length, right, right_length: the zones and their sizes. They are only read, and may be
  * one and the same.
  *
- * The rule: same is 1 exactly if both have the same names, with the same owner at each (a static name
- * has none) and the same addresses of each family, in whatever order.
+ * The rule: same is 1 exactly if both have the same names, with the same owner at each (a static
+ * name has none) and the same addresses of each family, in whatever order.
  * Refusals: 17 a length is not that of a zone, or one of the zones breaks its form.
  */
 jespurla_same_answer jespurla_zone_same(const jespurla_zone *left, size_t left_length,
@@ -426,8 +432,8 @@ typedef struct {
 } jespurla_answered;
 
 /*
- * zone, length: the zone and its size; a request changes it where it lies. By value, the zone as the
- * call before returned it.
+ * zone, length: the zone and its size; a request changes it where it lies. By value, the zone as
+ * the call before returned it.
  * name: a full name. dhcid: who asks.
  * family, address: the address that is added or deleted.
  * policy: of B alone.
@@ -436,10 +442,11 @@ typedef struct {
  * family or policy not listed; 11 a name that is not full.
  *
  * What changes: a request that does not answer NOERROR changes nothing. Names, owners and addresses
- * are afterwards those of the rule below, and the zone keeps its form; which place a new name gets is
- * left open. At most one entry of a lent zone is written, and no octet of another changes. Where by
- * the rule nothing changes, every octet of the zone keeps its value: a request that does not succeed,
- * an address to delete that is not there, an address to add that is there with no other to delete.
+ * are afterwards those of the rule below, and the zone keeps its form; which place a new name gets
+ * is left open. At most one entry of a lent zone is written, and no octet of another changes. Where
+ * by the rule nothing changes, every octet of the zone keeps its value: a request that does not
+ * succeed, an address to delete that is not there, an address to add that is there with no other to
+ * delete.
  */
 
 /* A: adds an absent name, held by the DHCID, with the address. YXDOMAIN where the name is there;
@@ -474,7 +481,8 @@ jespurla_answered jespurla_request_remove_address(jespurla_zone zone, jespurla_n
                                                   jespurla_address address);
 
 /* The second remove request: deletes a name that the DHCID holds and that has no address. NXRRSET
- * where the DHCID does not hold the name, YXRRSET where it does and an address is left. */
+ * where the DHCID does not hold the name, YXRRSET where it does and an address is left. The family
+ * must be one that is listed; the address is not looked at. */
 jespurla_request_answer jespurla_request_remove_name_lent(jespurla_zone *zone, size_t length,
                                                           jespurla_name name, jespurla_dhcid dhcid,
                                                           uint8_t family, jespurla_address address);
@@ -550,24 +558,24 @@ typedef struct {
 
 typedef struct {
     uint32_t refusal;
-    jespurla_zone zone; /* as job */
-    jespurla_job job;
+    jespurla_zone zone; /* the zone after the step; beside a refusal the very one handed in */
+    jespurla_job job;   /* and so the job */
 } jespurla_stepped;
 
 /*
- * One step of a job: the one request that its stage asks for, tested and done at once on the zone, and
- * where the answer leads the job. A job that has ended changes nothing. On a lent zone, and by value;
- * steps of both kinds may be mixed on one zone.
+ * One step of a job: the one request that its stage asks for, tested and done at once on the zone,
+ * and where the answer leads the job. A job that has ended changes nothing. On a lent zone, and by
+ * value; steps of both kinds may be mixed on one zone.
  *
  * zone, length: the zone and its size, whoever wrote it last.
  * job: the job as a new job call or its own last step returned it.
  *
- * Refusals: 17 the zone breaks its form or, lent, the length is not that of a zone; 18 a stage, family
- * or policy not listed, or a count that the stage can't have; 11 a name that is not full.
- * What changes is what the request changes, as above. Of all the steps together: however the steps of
- * any jobs are mixed, some order of the whole jobs, adds without room and those that gave up left out,
- * ends with the same names, owners and addresses and the same answer to every add: the jobs are
- * serializable (docs/DEMAND-3.md).
+ * Refusals: 17 the zone breaks its form or, lent, the length is not that of a zone; 18 a stage,
+ * family or policy not listed, or a count that the stage can't have; 11 a name that is not full.
+ * What changes is what the request changes, as above. Of all the steps together: however the steps
+ * of any jobs are mixed, some order of the whole jobs, adds without room and those that gave up
+ * left out, ends with the same names, owners and addresses and the same answer to every add: the
+ * jobs are serializable (docs/DEMAND-3.md).
  */
 jespurla_step_answer jespurla_job_step_lent(jespurla_zone *zone, size_t length, jespurla_job job);
 
