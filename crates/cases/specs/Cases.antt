@@ -6,8 +6,10 @@ use mathlib.Core.Option.{none}
 use Prim.Native.Nat.{ℕ}
 use lib.ListN.{replicate}
 use Rattle.clock.specs.Clock.{moment}
-use Rattle.fqdn.specs.Flags.{refusal, flagAnswer}
-use Rattle.fqdn.specs.Answer.{answerOf, octetsOf, resultOf}
+use Rattle.fqdn.specs.Flags.{sent, R, flagAnswer}
+use Rattle.fqdn.specs.Answer.{refused, wrote, answerOf, octetsOf, resultOf}
+use Rattle.fqdn.specs.declared.answer.NameOptionAnswer.{NameOptionAnswer}
+use Rattle.fqdn.specs.declared.flags.FlagAnswer.{FlagAnswer}
 use Rattle.octets.specs.Number.{numberAt}
 use Rattle.lease.specs.declared.Lease.{Lease}
 use Rattle.leasequery.specs.Answer.{answer as queryAnswer, told, written}
@@ -20,10 +22,10 @@ use Rattle.rdnss.specs.ServerList.{answer, serverList}
 
 -- A case: what is asked, and what is to come of it.
 pub data Case : Type 0 where
-  -- the flag decision for a flags octet, S honoured or not, N honoured or not: the number answered
-  flags : ℕ → ℕ → ℕ → ℕ → Case
-  -- the answer to an option value with a suffix, neither bit honoured, in a buffer of 256 octets: the octets written and the number answered
-  option : List ℕ → List ℕ → List ℕ → ℕ → Case
+  -- the flag decision for a flags octet, S honoured or not, N honoured or not: the answer
+  flags : ℕ → ℕ → ℕ → FlagAnswer → Case
+  -- the answer to an option value with a suffix, neither bit honoured, in a buffer of 256 octets: the octets written and what is answered
+  option : List ℕ → List ℕ → List ℕ → NameOptionAnswer → Case
   -- the server list at a moment after an area that comes in then: the servers held before, with the clock of that list, and those held after
   area : ℕ → List Server → ℕ → List ℕ → List Server → Case
   -- a lease query at a moment over a table, in a buffer of 648 octets: the reply's kind and its ciaddr
@@ -47,9 +49,9 @@ unfoldable pub steppedFresh : Zone → Arguments → Arguments → List Bool →
 steppedFresh zone x y turns = stepped x y turns (record { zone = zone; x = fresh x; y = fresh y })
 
 unfoldable pub Holds : Case → Type 0
-Holds (flags f s n number) = flagAnswer f s n ≡ number
-Holds (option value suffix octets number) =
-    (octetsOf (answerOf value suffix 0 0 256) value suffix ≡ octets) × (resultOf (answerOf value suffix 0 0 256) octets ≡ number)
+Holds (flags f s n right) = flagAnswer f s n ≡ right
+Holds (option value suffix octets right) =
+    (octetsOf (answerOf value suffix 0 0 256) value suffix ≡ octets) × (resultOf (answerOf value suffix 0 0 256) octets ≡ right)
 Holds (area last before now octets after) = serverList (packed (moment last) before) (moment now) octets ≡ answer 0 (packed (moment now) after)
 Holds (query now table packet kind address) =
     (told (queryAnswer (moment now) table 0 packet 648) .kind ≡ kind) × (numberAt 4 (written (queryAnswer (moment now) table 0 packet 648)) 12 ≡ address)
@@ -127,21 +129,21 @@ yAdds = record { kind = add; update = update 2 8; policy = keepOthers }
 unfoldable pub cases : List Case
 cases =
     -- P1: flags 249, S honoured
-    flags 249 1 0 1
+    flags 249 1 0 (sent 1)
     -- P2: flags 1, neither honoured
-    ∷ flags 1 0 0 2
+    ∷ flags 1 0 0 (sent 2)
     -- P3: flags 4, neither honoured
-    ∷ flags 4 0 0 0
+    ∷ flags 4 0 0 (sent 0)
     -- P4: flags 5, whatever may be honoured
-    ∷ flags 5 0 0 (refusal 10)
-    ∷ flags 5 1 0 (refusal 10)
-    ∷ flags 5 0 1 (refusal 10)
-    ∷ flags 5 1 1 (refusal 10)
+    ∷ flags 5 0 0 R
+    ∷ flags 5 1 0 R
+    ∷ flags 5 0 1 R
+    ∷ flags 5 1 1 R
     -- P5: a partial name completed to one of 13 octets, behind one of flags
-    ∷ option (0 ∷ 5 ∷ 112 ∷ 105 ∷ 112 ∷ 101 ∷ 55 ∷ []) stage (0 ∷ 5 ∷ 112 ∷ 105 ∷ 112 ∷ 101 ∷ 55 ∷ 5 ∷ 115 ∷ 116 ∷ 97 ∷ 103 ∷ 101 ∷ 0 ∷ []) 14
+    ∷ option (0 ∷ 5 ∷ 112 ∷ 105 ∷ 112 ∷ 101 ∷ 55 ∷ []) stage (0 ∷ 5 ∷ 112 ∷ 105 ∷ 112 ∷ 101 ∷ 55 ∷ 5 ∷ 115 ∷ 116 ∷ 97 ∷ 103 ∷ 101 ∷ 0 ∷ []) (wrote 14)
     -- P6: a label of 63 octets passes, one of 64 is refused
-    ∷ option (0 ∷ 63 ∷ replicate 63 97 ++ (0 ∷ [])) stage (0 ∷ 63 ∷ replicate 63 97 ++ (0 ∷ [])) 66
-    ∷ option (0 ∷ 64 ∷ replicate 64 97 ++ (0 ∷ [])) stage [] (refusal 11)
+    ∷ option (0 ∷ 63 ∷ replicate 63 97 ++ (0 ∷ [])) stage (0 ∷ 63 ∷ replicate 63 97 ++ (0 ∷ [])) (wrote 66)
+    ∷ option (0 ∷ 64 ∷ replicate 64 97 ++ (0 ∷ [])) stage [] (refused 11)
     -- P7: an option of Length 4 is ignored: it neither renews the server that it names nor withdraws it
     ∷ area 0 (server 1 90 ∷ []) 0 (servers 4 60 (replicate 24 1)) (server 1 90 ∷ [])
     ∷ area 0 (server 1 90 ∷ []) 0 (servers 4 0 (replicate 24 1)) (server 1 90 ∷ [])

@@ -6,7 +6,7 @@ use native.Mathlib.Omega.{arith}
 use types.Run.{OneOf, miss}
 use denote.Enum.Declared.{tagOf}
 use lib.ListN.{length, getD, drop}
-use borrow.Author.Tests.{lt-ltb, le-ltb}
+use borrow.Author.Tests.{lt-ltb, le-ltb, eq-eqb, ne-eqb}
 use Rattle.octets.specs.Write.{laid}
 use Rattle.dname.specs.Name.{shapeOf}
 use Rattle.dname.specs.declared.Shape.{Shape}
@@ -16,6 +16,8 @@ use Rattle.fqdn.specs.Flags.{flagAnswer}
 use Rattle.fqdn.specs.Answer.{byName, bySuffix, byFlags, byValue, answerOf, octetsOf, resultOf, Answered}
 use Rattle.fqdn.specs.declared.answer.NameAnswer.{NameAnswer}
 use Rattle.fqdn.specs.declared.answer.NameAnswer.the-variants.{Refused, Completed}
+use Rattle.fqdn.specs.declared.answer.NameOptionAnswer.{NameOptionAnswer}
+use Rattle.fqdn.specs.declared.flags.FlagAnswer.{FlagAnswer}
 
 module _ (value suffix : List ℕ) (s n : ℕ) where
   pub room-short : (room : ℕ) → room < 256 → answerOf value suffix s n room ≡ Refused 14
@@ -36,15 +38,16 @@ unfolding byValue
 value-some [] suffix s n h = absurd (omega arith)
 value-some (f ∷ name) suffix s n h = refl
 
+module _ (decision : FlagAnswer) (name suffix : List ℕ) where
+  pub flags-refused : ¬ (decision .refusal ≡ 0) → byFlags decision name suffix ≡ Refused 10
+  unfolding byFlags
+  flags-refused h = rw (byFlags, ne-eqb _ _ h)
+
+  pub flags-sent : decision .refusal ≡ 0 → byFlags decision name suffix ≡ bySuffix (shapeOf suffix) (decision .flags) name suffix
+  unfolding byFlags
+  flags-sent h = rw (byFlags, eq-eqb _ _ h)
+
 module _ (flags : ℕ) (name suffix : List ℕ) where
-  pub flags-refused : 255 < flags → byFlags flags name suffix ≡ Refused 10
-  unfolding byFlags
-  flags-refused h = rw (byFlags, lt-ltb 255 flags h)
-
-  pub flags-sent : flags ≤ 255 → byFlags flags name suffix ≡ bySuffix (shapeOf suffix) flags name suffix
-  unfolding byFlags
-  flags-sent h = rw (byFlags, le-ltb 255 flags h)
-
   -- a suffix of any shape but full
   pub suffix-refused : (t : Shape) → OneOf (0 ∷ 2 ∷ 3 ∷ []) (tagOf the-type t) → bySuffix t flags name suffix ≡ Refused 11
   unfolding bySuffix
@@ -62,6 +65,6 @@ module _ (flags : ℕ) (name suffix : List ℕ) where
   name-completed h = rw (byName, le-ltb 255 (length name + length suffix) h)
 
 -- the promise, for an answer that is known
-module _ (value suffix : List ℕ) (s n : ℕ) (before : List ℕ) (r : ℕ) (after : List ℕ) where
+module _ (value suffix : List ℕ) (s n : ℕ) (before : List ℕ) (r : NameOptionAnswer) (after : List ℕ) where
   pub answered-by : (a : NameAnswer) → answerOf value suffix s n (length before) ≡ a → r ≡ resultOf a (octetsOf a value suffix) → after ≡ laid (octetsOf a value suffix) before → Answered value suffix s n before r after
   answered-by a e p q = record { result = rw e p; buffer = rw e q }

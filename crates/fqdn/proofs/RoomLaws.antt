@@ -4,7 +4,7 @@ use mathlib.Core.Bool.{Bool, true, false, cond}
 use mathlib.Core.List.{List, [], _∷_, _++_, append-nil}
 use Prim.Native.Nat.{ℕ, _+_, _≤_, _<_}
 use native.Mathlib.Omega.{arith}
-use lib.Dec.{ltb}
+use lib.Dec.{eqb, ltb}
 use lib.ListN.{length, drop, length-append}
 use borrow.Author.Tests.{ltb-false}
 use Rattle.dname.specs.Name.{shapeOf}
@@ -54,9 +54,9 @@ value-fits : (value suffix : List ℕ) (s n : ℕ) → Fits value suffix (byValu
 unfolding Fits byValue byFlags
 value-fits [] suffix s n = tt
 value-fits (f ∷ name) suffix s n =
-    let flags = flagAnswer f s n in
-    on-cond (Fits (f ∷ name) suffix) (ltb 255 flags) (Refused 10) (bySuffix (shapeOf suffix) flags name suffix) (λ _. tt)
-    (λ _. suffix-fits f name suffix flags (shapeOf suffix) refl)
+    let decision = flagAnswer f s n in
+    on-cond (Fits (f ∷ name) suffix) (eqb (decision .refusal) 0) (bySuffix (shapeOf suffix) (decision .flags) name suffix) (Refused 10)
+    (λ _. suffix-fits f name suffix (decision .flags) (shapeOf suffix) refl) (λ _. tt)
 
 answer-fits : (value suffix : List ℕ) (s n room : ℕ) → Fits value suffix (answerOf value suffix s n room)
 unfolding Fits answerOf

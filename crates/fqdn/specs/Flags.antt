@@ -3,30 +3,31 @@ use Prim.Native.Nat.{ℕ, zero, suc, _+_, _*_, _%_, _≤_}
 use mathlib.Core.Path.{_≡_}
 use mathlib.Core.List.{List, [], _∷_}
 use lib.ListN.{getD}
-
--- A refusal as a result has it: its number in the upper half, so that no flags octet and no length is taken for one.
-abbrev pub refusal : ℕ → ℕ
-refusal number = number * 65536
+use Rattle.fqdn.specs.declared.flags.FlagAnswer.{FlagAnswer}
 
 -- Whether a bit may be honoured, as the caller's number says it: 0 is no, any other yes.
 unfoldable pub honoured : ℕ → ℕ
 honoured zero = 0
 honoured (suc n) = 1
 
-abbrev R : ℕ
-R = refusal 10
+-- An answer: these flags are sent, or R, refusal 10.
+abbrev pub sent : ℕ → FlagAnswer
+sent flags = record { refusal = 0; flags = flags }
+
+abbrev pub R : FlagAnswer
+R = record { refusal = 10; flags = 0 }
 
 -- Document 01, "Name option": the answers to the lowest three bits N O S, counted up in each row. The rows: neither may be honoured, S, N, both.
-abbrev pub flagTable : List ℕ
+abbrev pub flagTable : List FlagAnswer
 flagTable =
-    0 ∷ 2 ∷ R ∷ R ∷ 0 ∷ R ∷ R ∷ R ∷
-    0 ∷ 1 ∷ R ∷ R ∷ 0 ∷ R ∷ R ∷ R ∷
-    0 ∷ 2 ∷ R ∷ R ∷ 4 ∷ R ∷ R ∷ R ∷
-    0 ∷ 1 ∷ R ∷ R ∷ 4 ∷ R ∷ R ∷ R ∷ []
+    sent 0 ∷ sent 2 ∷ R ∷ R ∷ sent 0 ∷ R ∷ R ∷ R ∷
+    sent 0 ∷ sent 1 ∷ R ∷ R ∷ sent 0 ∷ R ∷ R ∷ R ∷
+    sent 0 ∷ sent 2 ∷ R ∷ R ∷ sent 4 ∷ R ∷ R ∷ R ∷
+    sent 0 ∷ sent 1 ∷ R ∷ R ∷ sent 4 ∷ R ∷ R ∷ R ∷ []
 
--- Document 01, "Name option": the place in the table.
-unfoldable pub flagAnswer : ℕ → ℕ → ℕ → ℕ
-flagAnswer flags s n = getD flagTable (flags % 8 + 8 * honoured s + 16 * honoured n) 0
+-- Document 01, "Name option": the answer at its place in the table. Every place is one of the 32.
+unfoldable pub flagAnswer : ℕ → ℕ → ℕ → FlagAnswer
+flagAnswer flags s n = getD flagTable (flags % 8 + 8 * honoured s + 16 * honoured n) (sent 0)
 
 -- ---- for the contracts of inner functions; no promise of an exported call cites these
 

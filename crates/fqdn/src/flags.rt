@@ -2,11 +2,16 @@
 ghost use mathlib.Core.Path.{_≡_};
 ghost use Rattle.fqdn.specs.Flags.{Honoured, flagAnswer};
 
+// The answer to a client's flags octet. refusal: 0 where there is none. flags: the flags octet to
+// send, 0 beside a refusal.
+#[repr(C)]
+pub struct FlagAnswer {
+    pub refusal: u32,
+    pub flags: u32,
+}
+
 // Refusal 10 in the table: no answer is a flags octet of that number.
 const R: u8 = 10;
-
-// Refusal 10 as a result has it: 10 times 65536.
-const REFUSED: u32 = 655360;
 
 // The answers, at the place that the lowest three bits of the flags octet and what may be honoured
 // give. They are octets, since the table is copied whenever it is read at a place that varies.
@@ -55,13 +60,20 @@ fn bit(number: u8) -> usize
 // The flags octet of the server's answer to a client's flags octet, or refusal 10. A number other
 // than 0 says that S, or N, may be honoured.
 #[no_mangle]
-pub extern "C" fn jespurla_flag_decision(flags: u8, honour_s: u8, honour_n: u8) -> u32
+pub extern "C" fn jespurla_flag_decision(flags: u8, honour_s: u8, honour_n: u8) -> FlagAnswer
     ensures { λ r. ⌜ r ≡ flagAnswer flags «honour_s» «honour_n» ⌝ }
 {
     let place = (flags % 8) as usize + 8 * bit(honour_s) + 16 * bit(honour_n);
     let answer = ANSWERS[place];
     if answer == R {
-        return REFUSED;
+        return FlagAnswer {
+            refusal: 10,
+            flags: 0,
+        };
     }
-    answer as u32
+    let sent = answer as u32;
+    FlagAnswer {
+        refusal: 0,
+        flags: sent,
+    }
 }

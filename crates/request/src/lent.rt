@@ -1,5 +1,6 @@
 // The exported calls on a zone that is lent: 23,936 octets in the layout of the C struct, read and
 // written where they lie. Refusals and decisions are those of the calls by value.
+use crate::CheckAnswer;
 use crate::decide;
 use crate::kind::REMOVE_ADDRESS;
 use crate::kind::REMOVE_NAME;
@@ -70,11 +71,17 @@ fn send(
 
 // The check alone.
 #[no_mangle]
-pub extern "C" fn jespurla_zone_check_lent(octets: &[u8], name: Name, family: u8, policy: u8) -> u32
-    ensures { λ r. ⌜ r ≡ refusalIn (now (octets .entry)) (nameOf name) family policy ⌝ }
+pub extern "C" fn jespurla_zone_check_lent(
+    octets: &[u8],
+    name: Name,
+    family: u8,
+    policy: u8,
+) -> CheckAnswer
+    ensures { λ r. ⌜ r .refusal ≡ refusalIn (now (octets .entry)) (nameOf name) family policy ⌝ }
 {
     let s = survey_for(octets, &name.octets, name.len);
-    crate::refusal(s, &name.octets, name.len, family, policy)
+    let refused = crate::refusal(s, &name.octets, name.len, family, policy);
+    CheckAnswer { refusal: refused }
 }
 
 // Request A: adds an absent name with the DHCID and the address.

@@ -51,6 +51,12 @@ pub(crate) struct Effect {
     pub entry: Entry,
 }
 
+// What the check answers. refusal: the number of document 01's table, 0 where there is none.
+#[repr(C)]
+pub struct CheckAnswer {
+    pub refusal: u32,
+}
+
 // refusal: the number of document 01's table, 0 where there is none. answer: 0 success, 3 NXDOMAIN,
 // 6 YXDOMAIN, 7 YXRRSET, 8 NXRRSET, 256 no room, as in crate::answer.
 #[repr(C)]
@@ -225,12 +231,13 @@ fn settle(zone: Zone, w: Effect) -> Answered
 // The check alone, for what sends no request: the refusal that any request with these would get, 0
 // where there is none. Where there is no policy, 0 stands for it.
 #[no_mangle]
-pub extern "C" fn jespurla_zone_check(zone: Zone, name: Name, family: u8, policy: u8) -> u32
-    ensures { λ r. ⌜ r ≡ refusalOf zone (nameOf name) family policy ⌝ }
+pub extern "C" fn jespurla_zone_check(zone: Zone, name: Name, family: u8, policy: u8) -> CheckAnswer
+    ensures { λ r. ⌜ r .refusal ≡ refusalOf zone (nameOf name) family policy ⌝ }
 {
     let v = survey::survey_of(zone, name);
     let s = v.survey;
-    refusal(s, &name.octets, name.len, family, policy)
+    let refused = refusal(s, &name.octets, name.len, family, policy);
+    CheckAnswer { refusal: refused }
 }
 
 // Request A: adds an absent name with the DHCID and the address.

@@ -101,9 +101,9 @@ fn step_ended(octets: &mut [u8], job: Job) -> StepAnswer
     requires { ⌜ (numbersListed job ≡ true) × Idle (job .stage) ⌝ }
     ensures { λ r. ⌜ StepPromiseIn (now (octets .entry)) job (now (octets .exit)) r ⌝ }
 {
-    let refused = lent::jespurla_zone_check_lent(octets, job.name, job.family, 0);
+    let checked = lent::jespurla_zone_check_lent(octets, job.name, job.family, 0);
     StepAnswer {
-        refusal: refused,
+        refusal: checked.refusal,
         job: job,
     }
 }
@@ -114,7 +114,7 @@ fn refuse(octets: &mut [u8], job: Job) -> StepAnswer
     ensures { λ r. ⌜ StepPromiseIn (now (octets .entry)) job (now (octets .exit)) r ⌝ }
 {
     let checked = lent::jespurla_zone_check_lent(octets, job.name, job.family, 0);
-    if checked == BROKEN_ZONE {
+    if checked.refusal == BROKEN_ZONE {
         return StepAnswer {
             refusal: BROKEN_ZONE,
             job: job,

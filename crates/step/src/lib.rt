@@ -109,9 +109,9 @@ fn step_ended(zone: Zone, job: Job) -> Stepped
     requires { ⌜ (numbersListed job ≡ true) × Idle (job .stage) ⌝ }
     ensures { λ r. ⌜ StepPromise zone job r ⌝ }
 {
-    let refused = request::jespurla_zone_check(zone, job.name, job.family, 0);
+    let checked = request::jespurla_zone_check(zone, job.name, job.family, 0);
     Stepped {
-        refusal: refused,
+        refusal: checked.refusal,
         zone: zone,
         job: job,
     }
@@ -123,7 +123,7 @@ fn refuse(zone: Zone, job: Job) -> Stepped
     ensures { λ r. ⌜ StepPromise zone job r ⌝ }
 {
     let checked = request::jespurla_zone_check(zone, job.name, job.family, 0);
-    if checked == BROKEN_ZONE {
+    if checked.refusal == BROKEN_ZONE {
         return Stepped {
             refusal: BROKEN_ZONE,
             zone: zone,

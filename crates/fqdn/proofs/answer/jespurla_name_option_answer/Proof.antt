@@ -28,11 +28,8 @@ decide-requires c κs = search needs
 enum-known-answer : tie.Need-enum-known-answer
 enum-known-answer c = search needs
 
-cast-result : tie.Need-cast-result
-cast-result c = search needs
-
-mul-result : tie.Need-mul-result
-mul-result c = search needs
+cast-t12 : tie.Need-cast-t12
+cast-t12 c = search needs
 
 enum-known-answer-2 : tie.Need-enum-known-answer-2
 enum-known-answer-2 c = search needs
@@ -81,8 +78,7 @@ jespurla-name-option-answer-spec =
     (tie.spec
     decide-requires
     enum-known-answer
-    cast-result
-    mul-result
+    cast-t12
     enum-known-answer-2
     slice-aggregate-put-name
     put-name-requires

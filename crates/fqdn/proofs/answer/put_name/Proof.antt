@@ -1,9 +1,10 @@
 use Rattle.fqdn.proofs.RoomLaws.{octets-length}
-use mathlib.Core.Path.{_∙_}
+use mathlib.Core.Path.{_≡_, ap, _∙_}
 use mathlib.Core.List.{_∷_, _++_}
 use native.Mathlib.Omega.{arith}
-use lib.ListN.{drop}
+use lib.ListN.{length, drop}
 use denote.Ref.{now}
+use Rattle.fqdn.specs.Answer.{wrote}
 use Rattle.octets.specs.Write.{WroteIf, Wrote}
 use Rattle.octets.proofs.WriteLaws.{written, more, put-front}
 use Rattle.dname.proofs.NameLaws.{part-rest}
@@ -12,10 +13,10 @@ use Rattle.fqdn.proofs.answer.put_name.Statement.{statement}
 use Rattle.fqdn.proofs.answer.put_name.Tie as tie
 
 -- the three writes as one
-wrote : (c : tie.After-slice-known4) →
+writes : (c : tie.After-slice-known4) →
     let a = c .before .before .before .before .before .before .before .before .before .before .before .before .before .before .before .before .args in
     Wrote (now (a .reply)) 0 (a .flags ∷ (drop 1 (now (a .value)) ++ now (a .tail))) (c .before .before .put-octets2 .last .0) (c .before .before .put-octets2 .result)
-wrote c =
+writes c =
     let a = c .before .before .before .before .before .before .before .before .before .before .before .before .before .before .before .before .args in
     let room = c .before .before .before .before .before .before .before .before .before .before .before .before .before .before .before .before .pre in
     let run = more (more (written (c .before .before .before .before .before .before .before .before .before .before .before .put-octet .ensures)) (c .before .before .before .before .before .before .put-octets .ensures)) (c .before .before .put-octets2 .ensures) in
@@ -41,11 +42,11 @@ put-octets-requires c κs = search needs
 put-octets-requires-2 : tie.Need-put-octets-requires-2
 put-octets-requires-2 c κs = search needs
 
-cast-result : tie.Need-cast-result
-cast-result c =
+cast-length : tie.Need-cast-length
+cast-length c =
     let a = c .before .before .before .before .before .before .before .before .before .before .before .before .before .before .before .before .args in
     let room = c .before .before .before .before .before .before .before .before .before .before .before .before .before .before .before .before .pre in
-    omega (arith, wrote c .next, octets-length (a .flags) (now (a .value)) (now (a .tail)) (room .some), room .most)
+    omega (arith, writes c .next, octets-length (a .flags) (now (a .value)) (now (a .tail)) (room .some), room .most)
 
 same-length : tie.Need-same-length
 same-length c = search needs
@@ -53,8 +54,9 @@ same-length c = search needs
 returns : tie.Need-returns
 returns c =
     let a = c .before .before .before .before .before .before .before .before .before .before .before .before .before .before .before .before .args in
-    let w = wrote c in
-    record { result = omega (arith, w .next); buffer = w .list ∙ put-front (now (a .reply)) _ }
+    let w = writes c in
+    let e : c .before .before .put-octets2 .result ≡ length (a .flags ∷ (drop 1 (now (a .value)) ++ now (a .tail))) = omega (arith, w .next) in
+    record { result = ap wrote e; buffer = w .list ∙ put-front (now (a .reply)) _ }
 
 pub put-name-spec : {M : Type 1} → statement M
 put-name-spec =
@@ -66,6 +68,6 @@ put-name-spec =
     part-put-octets-end
     put-octets-requires
     put-octets-requires-2
-    cast-result
+    cast-length
     same-length
     returns)

@@ -32,8 +32,8 @@ array-read-answer c = search needs
 returns : tie.Need-returns
 returns c = refused _ _ _ _ _ (c .before .before .bit .ensures .is) (c .before .bit2 .ensures .is) (c .if1 .taken)
 
-cast-result : tie.Need-cast-result
-cast-result c = omega (arith, small (c .before .before .before .args .flags % 8 + 8 * c .before .before .bit .result + 16 * c .before .bit2 .result))
+cast-sent : tie.Need-cast-sent
+cast-sent c = omega (arith, small (c .before .before .before .args .flags % 8 + 8 * c .before .before .bit .result + 16 * c .before .bit2 .result))
 
 returns-2 : tie.Need-returns-2
 returns-2 c = answered _ _ _ _ _ (c .before .before .bit .ensures .is) (c .before .bit2 .ensures .is) (c .if1 .left)
@@ -51,5 +51,5 @@ jespurla-flag-decision-spec =
     add-place-2
     array-read-answer
     returns
-    cast-result
+    cast-sent
     returns-2)
