@@ -33,9 +33,7 @@
  * Calls that write one zone or one buffer are to be made one after the other.
  *
  * What the archive needs: memcpy, memmove and memset of a C library or of your own, and a stack. It
- * allocates nothing and reads neither clock nor files.
- *
- * Every struct has the size and the offsets of jespurla_layout.def on x86-64.
+ * allocates nothing and reads neither clock nor files. It is for Linux on x86-64.
  */
 #ifndef JESPURLA_H
 #define JESPURLA_H
@@ -106,7 +104,9 @@ static inline const char *jespurla_refusal_text(uint32_t refusal)
 
 /*
  * A moment on the clock, in seconds: 0 to JESPURLA_LATEST. Where it is an expiry it may also be
- * JESPURLA_NEVER. Any other number breaks the form of the record that holds it.
+ * JESPURLA_NEVER. Any other number breaks the form of the record that holds it. From when the
+ * seconds count is the caller's choice; the server list refuses a clock that goes back, so it wants
+ * one that is never set back.
  */
 typedef struct {
     uint64_t seconds;
@@ -117,9 +117,9 @@ typedef struct {
 
 /* ---- The DHCPv6 name option (RFC 4704) */
 
-/* The bits of its flags octet. */
+/* The bits of its flags octet. A client asks for S or N; the answer says what the server does. */
 #define JESPURLA_FLAG_S 1 /* the server updates the name's address */
-#define JESPURLA_FLAG_O 2 /* the server has overridden the client's wish for S */
+#define JESPURLA_FLAG_O 2 /* in an answer alone: the server overrides the client's wish for S */
 #define JESPURLA_FLAG_N 4 /* the server updates nothing */
 
 typedef struct {
@@ -142,7 +142,7 @@ jespurla_flag_answer jespurla_flag_decision(uint8_t flags, uint8_t honour_s, uin
 
 typedef struct {
     uint32_t refusal;
-    uint32_t length; /* how many octets stand at the front of reply */
+    uint32_t length; /* how many octets stand at the front of reply, the flags octet among them */
 } jespurla_name_answer;
 
 /*
@@ -259,8 +259,9 @@ typedef struct {
  * table, count: the lease table, at most JESPURLA_LEASES_MAX records, addresses nonzero and
  * strictly rising. It is only read, and not at all where the count is above that.
  * server: this server's address, as a number.
- * query, query_length: the packet.
- * reply, reply_length: where the reply goes; at least JESPURLA_LEASE_REPLY_MIN octets.
+ * query, query_length: the packet, as UDP carries it, from op on.
+ * reply, reply_length: where the reply goes, as UDP is to carry it to the query's giaddr; at least
+ * JESPURLA_LEASE_REPLY_MIN octets.
  *
  * The rule: a query has one key. A ciaddr that is not zero asks by address. A hardware key, which
  * is there where any octet of htype, hlen or chaddr is not zero, asks by client: the one with the
@@ -269,14 +270,15 @@ typedef struct {
  *  - By address: LEASEACTIVE where the address has an active record, LEASEUNASSIGNED where it has a
  *    record that is not active, LEASEUNKNOWN where it has none.
  *  - By client: LEASEACTIVE where the client has an active lease, about the one with the latest
- *    last transaction (of several the lowest address); else LEASEUNKNOWN, and only then. Never
- *    LEASEUNASSIGNED.
- * The reply copies xid, flags and giaddr. Of an active lease it has ciaddr, htype, hlen and chaddr
- * of the record, the seconds left (51; all ones for never), the client id (61) and relay
- * information (82) if there are any, the seconds since the last transaction (91), and, by client
- * with two or more active leases, their addresses, the latest first, at most 63 (92). In any other
- * reply ciaddr, htype, hlen and chaddr are the query's. Option 53 has the kind and 54 the server's
- * address. The octets of reply past it keep their values.
+ *    last transaction (of several the lowest address); else LEASEUNKNOWN. Never LEASEUNASSIGNED.
+ * The giaddr takes no part in the choice, and options 52 and 55 are not followed.
+ * The reply has op 2 and copies xid, flags and giaddr; ciaddr, htype, hlen and chaddr are those of
+ * the active lease, and in any other reply those of the query. Its options, in this order: 53, the
+ * kind; 54, the server's address; of an active lease 51, the seconds left (all ones for never, at
+ * most one less for any other), 61 and 82, the client id and the relay information if there are
+ * any, 91, the seconds since the last transaction (0 where that lies ahead, at most all ones), and,
+ * by client with two or more active leases, 92, their addresses, the latest first, at most 63; 255.
+ * The octets of reply past it keep their values.
  * Refusals: 15 clock above JESPURLA_LATEST; 9 the table breaks its form; 8 reply too short; 1
  * packet under JESPURLA_PACKET_MIN or over JESPURLA_PACKET_MAX octets, or a wrong cookie; 2 op not
  * 1; 3 options past the end, no end option, or 53 or 61 twice; 4 option 53 absent, not one octet or
@@ -343,6 +345,7 @@ typedef struct {
  * A zone of zeros is empty. Which place a name has does not matter, and freed places serve again. A
  * zone breaks its form where an entry has a kind not listed, a name that is not full, a count over
  * 4 or two equal addresses, or where two names are equal. Names are equal where their octets are.
+ * No request makes a static name or changes one: the caller writes its entry into a free place.
  */
 typedef struct {
     jespurla_entry entries[JESPURLA_NAMES_MAX];
@@ -439,7 +442,9 @@ typedef struct {
  * policy: of B alone.
  *
  * Refusals of each: 17 the zone breaks its form or, lent, the length is not that of a zone; 18 a
- * family or policy not listed; 11 a name that is not full.
+ * family or policy not listed; 11 a name that is not full. 17 is about the caller's own memory: the
+ * zone was damaged by something else and is to be restored, since no call changes it any more; 18
+ * and 11 are about this request alone.
  *
  * What changes: a request that does not answer NOERROR changes nothing. Names, owners and addresses
  * are afterwards those of the rule below, and the zone keeps its form; which place a new name gets
@@ -504,6 +509,9 @@ jespurla_answered jespurla_request_remove_name(jespurla_zone zone, jespurla_name
  * A remove takes an address away, and the name with the last one.
  *   before its first request:   NOERROR leads to before the second; NXRRSET ends it not ours.
  *   before its second request:  NOERROR ends it gone; anything else ends it kept.
+ *
+ * After conflict the name is somebody else's: the player gets another, or is told. No room and gave
+ * up have changed nothing, and a fresh job may be sent later.
  */
 #define JESPURLA_ADD_BEFORE_A 1
 #define JESPURLA_ADD_BEFORE_B 2
@@ -535,7 +543,9 @@ typedef struct {
 /*
  * A fresh add, or a fresh remove, that has sent nothing yet.
  *
- * name, dhcid, family, address, policy: what its requests will have.
+ * name, dhcid, family, address, policy: what its requests will have. The job has them as they were
+ * handed in, the stage JESPURLA_ADD_BEFORE_A or JESPURLA_REMOVE_BEFORE_FIRST, and count 0; a remove
+ * has policy 0.
  *
  * Refusals: 18 a family or policy not listed; 11 a name that is not full.
  */
@@ -564,8 +574,9 @@ typedef struct {
 
 /*
  * One step of a job: the one request that its stage asks for, tested and done at once on the zone,
- * and where the answer leads the job. A job that has ended changes nothing. On a lent zone, and by
- * value; steps of both kinds may be mixed on one zone.
+ * and where the answer leads the job: of the job only stage and count change. A job that has ended
+ * comes back as it is, and so does the zone. On a lent zone, and by value; steps of both kinds may
+ * be mixed on one zone.
  *
  * zone, length: the zone and its size, whoever wrote it last.
  * job: the job as a new job call or its own last step returned it.
