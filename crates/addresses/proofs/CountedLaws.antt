@@ -12,7 +12,7 @@ use borrow.Author.Tests.{eqb-true, eqb-false, eq-eqb, ne-eqb, lt-ltb, le-ltb}
 use borrow.Table.Steps.{cases}
 use Rattle.octets.specs.Compare.{sameOctets}
 use Rattle.octets.specs.Count.{Octets, member, distinct}
-use Rattle.addresses.specs.Addresses.{Counted, counted4, counted6, held, listed}
+use Rattle.addresses.specs.Addresses.{Counted, counted4, counted6, held, listed, within}
 use Rattle.addresses.specs.declared.set4.Set4.{Set4}
 use Rattle.addresses.specs.declared.set6.Set6.{Set6}
 use Rattle.addresses.proofs.set4.Addr4
@@ -109,6 +109,28 @@ module _ {A : Type 0} {f : A → Octets} {s : Counted A} {n i : ℕ} (l : Pairs 
   pub pairs-end : n ≤ i → true ≡ distinct (listed f s)
   unfolding distinct
   pairs-end h = sym (l .rest ∙ ap distinct (listed-end f s n (l .places) i h))
+
+-- ---- each one looked for in another list
+
+pub record Inclusion {A : Type 0} (f : A → Octets) (s : Counted A) (m : List Octets) (n i : ℕ) : Type 0 where
+  pub places : Places s n
+  pub rest : within (listed f s) m ≡ within (drop i (listed f s)) m
+
+pub inclusion-start : {A : Type 0} {f : A → Octets} {s : Counted A} {m : List Octets} {n : ℕ} → Places s n → Inclusion f s m n 0
+inclusion-start p = record { places = p; rest = refl }
+
+module _ {A : Type 0} {f : A → Octets} {s : Counted A} {m : List Octets} {n i : ℕ} (l : Inclusion f s m n i) where
+  pub inclusion-lacks : (d : A) → i < n → member (f (getD (s .items) i d)) m ≡ false → false ≡ within (listed f s) m
+  unfolding within
+  inclusion-lacks d h e = sym (l .rest ∙ ap (λ (x : List Octets). within x m) (listed-cons f s n (l .places) d i h) ∙ rw e)
+
+  pub inclusion-has : (d : A) → i < n → member (f (getD (s .items) i d)) m ≡ true → Inclusion f s m n (i + 1)
+  unfolding within
+  inclusion-has d h e = record { places = l .places; rest = l .rest ∙ ap (λ (x : List Octets). within x m) (listed-cons f s n (l .places) d i h) ∙ rw e }
+
+  pub inclusion-end : n ≤ i → true ≡ within (listed f s) m
+  unfolding within
+  inclusion-end h = sym (l .rest ∙ ap (λ (x : List Octets). within x m) (listed-end f s n (l .places) i h))
 
 -- ---- what the count tells: how many there are, whether there is none, whether there is room
 

@@ -7,13 +7,14 @@ use native.Mathlib.Omega.{arith}
 use lib.Dec.{leb, ltb}
 use lib.ListN.{length}
 use borrow.Author.Tests.{leb-true, le-leb, lt-leb, ltb-true, lt-ltb, le-ltb}
-use Rattle.octets.proofs.BoolLaws.{and-left, and-right}
+use borrow.Table.Steps.{cases}
+use Rattle.octets.proofs.BoolLaws.{and-both, and-left, and-right}
 use Rattle.octets.specs.Compare.{sameOctets}
 use Rattle.octets.specs.Count.{Octets, member, distinct, Counts, without}
-use Rattle.addresses.specs.Addresses.{Addresses, including, excluding, list4, list6, setOf, sound, emptySet4, emptySet6, joined}
+use Rattle.addresses.specs.Addresses.{Addresses, including, excluding, list4, list6, setOf, sound, emptySet4, emptySet6, joined, within}
 use Rattle.addresses.specs.declared.set4.Set4.{Set4}
 use Rattle.addresses.specs.declared.set6.Set6.{Set6}
-use Rattle.octets.proofs.CountLaws.{same-dec, same-yes, same-no, member-last, member-without, distinct-last, distinct-without, counts-eq, counts-list, counts-ext, one, counts-mark}
+use Rattle.octets.proofs.CountLaws.{same-dec, same-yes, same-no, member-here, member-on, member-last, member-without, distinct-last, distinct-without, counts-eq, counts-list, counts-ext, one, counts-mark}
 
 -- sets with the same addresses are equal: their counts follow
 pub set-eq : (s t : Addresses) → Counts (s .count) (s .has) → Counts (t .count) (t .has) → ((a : Octets) → s .has a ≡ t .has a) → s ≡ t
@@ -21,6 +22,39 @@ set-eq s t c d e =
     let n : s .count ≡ t .count = counts-eq c d e in
     let f : s .has ≡ t .has = fun-ext e in
     λ i. record { count = n i; has = f i }
+
+-- ---- every address of one in another
+
+within-has : (l m : List Octets) → within l m ≡ true → (a : Octets) → member a l ≡ true → member a m ≡ true
+unfolding within
+within-has [] m w a h = absurd (true≢false (sym h ∙ (unfold member in refl)))
+within-has (x ∷ l) m w a h = go (same-dec x a) (within-has l m (and-right (member x m) (within l m) w) a)
+  where
+    go : Dec (x ≡ a) → (member a l ≡ true → member a m ≡ true) → member a m ≡ true
+    go (yes p) f = ap (λ (u : Octets). member u m) (sym p) ∙ and-left (member x m) (within l m) w
+    go (no q) f = f (sym (member-on a x l q) ∙ h)
+
+has-within : (l m : List Octets) → ((a : Octets) → member a l ≡ true → member a m ≡ true) → within l m ≡ true
+unfolding within
+has-within [] m f = refl
+has-within (x ∷ l) m f = and-both (member x m) (within l m) (f x (member-here x x l refl)) (has-within l m (λ a h. f a (behind a (same-dec x a) h)))
+  where
+    behind : (a : Octets) → Dec (x ≡ a) → member a l ≡ true → member a (x ∷ l) ≡ true
+    behind a (yes p) h = member-here a x l p
+    behind a (no q) h = member-on a x l q ∙ h
+
+-- sets of which each is in the other are equal, and only those
+pub within-both : (l m : List Octets) → distinct l ≡ true → distinct m ≡ true → within l m ≡ true → within m l ≡ true → setOf l ≡ setOf m
+within-both l m d e w v = set-eq (setOf l) (setOf m) (counts-list l d) (counts-list m e) agree
+  where
+    agree : (a : Octets) → member a l ≡ member a m
+    agree a = cases (member a l) (λ h. h ∙ sym (within-has l m w a h)) (λ h. h ∙ sym (absent h))
+      where
+        absent : member a l ≡ false → member a m ≡ false
+        absent h = cases (member a m) (λ t. absurd (true≢false (sym (within-has m l v a t) ∙ h))) (λ t. t)
+
+pub set-within : (l m : List Octets) → setOf l ≡ setOf m → within l m ≡ true
+set-within l m e = has-within l m (λ a h. sym (ap (λ (s : Addresses). s .has a) e) ∙ h)
 
 -- ---- a set with an address in it, or without it: one name for both, by which laws speak of both
 

@@ -1,6 +1,6 @@
 -- The addresses of one name. Document 01, "Zone, requests and jobs".
 use mathlib.Core.Path.{_≡_}
-use mathlib.Core.Bool.{Bool, false, cond, not, _&&_, _||_}
+use mathlib.Core.Bool.{Bool, true, false, cond, not, _&&_, _||_}
 use mathlib.Core.List.{List, [], _∷_, _++_, map}
 use Prim.Native.Nat.{ℕ, _+_, _-_, _≤_}
 use lib.Dec.{leb, ltb}
@@ -75,6 +75,11 @@ held s = take (s .count) (s .items)
 
 abbrev pub listed : {A : Type 0} → (A → Octets) → Counted A → List Octets
 listed octets s = map octets (held s)
+
+-- Every address of one list is in another.
+unfoldable pub within : List Octets → List Octets → Bool
+within [] m = true
+within (x ∷ l) m = member x m && within l m
 
 -- No addresses, and zeros in all places.
 abbrev pub emptySet4 : Set4

@@ -8,7 +8,7 @@ ghost use lib.Dec.{eqb, ltb};
 ghost use lib.ListN.{drop, length};
 ghost use Rattle.octets.specs.Compare.{sameOctets};
 ghost use Rattle.octets.specs.Count.{member, distinct};
-ghost use Rattle.addresses.specs.Addresses.{octets4, list4, sound, counted4, emptySet4, Added, Removed};
+ghost use Rattle.addresses.specs.Addresses.{octets4, list4, sound, within, counted4, emptySet4, Added, Removed};
 
 #[repr(C)]
 pub struct Addr4 {
@@ -77,6 +77,22 @@ pub fn is_sound4(s: Set4) -> bool
         return false;
     }
     is_distinct4(s)
+}
+
+// Whether every address of one set is in another.
+pub fn is_within4(s: Set4, t: Set4) -> bool
+    ensures { λ r. ⌜ r ≡ within (list4 s) (list4 t) ⌝ }
+{
+    let n = count::held_places(s.count);
+    let mut i: usize = 0;
+    while i < n {
+        let a = s.items[i];
+        if !has4(t, a) {
+            return false;
+        }
+        i += 1;
+    }
+    true
 }
 
 // The set with the address behind the others, unless it is there or there is no room for it.

@@ -8,7 +8,7 @@ ghost use lib.Dec.{eqb, ltb};
 ghost use lib.ListN.{drop, length};
 ghost use Rattle.octets.specs.Compare.{sameOctets};
 ghost use Rattle.octets.specs.Count.{member, distinct};
-ghost use Rattle.addresses.specs.Addresses.{octets6, list6, sound, counted6, emptySet6, Added, Removed};
+ghost use Rattle.addresses.specs.Addresses.{octets6, list6, sound, within, counted6, emptySet6, Added, Removed};
 
 #[repr(C)]
 pub struct Addr6 {
@@ -77,6 +77,22 @@ pub fn is_sound6(s: Set6) -> bool
         return false;
     }
     is_distinct6(s)
+}
+
+// Whether every address of one set is in another.
+pub fn is_within6(s: Set6, t: Set6) -> bool
+    ensures { λ r. ⌜ r ≡ within (list6 s) (list6 t) ⌝ }
+{
+    let n = count::held_places(s.count);
+    let mut i: usize = 0;
+    while i < n {
+        let a = s.items[i];
+        if !has6(t, a) {
+            return false;
+        }
+        i += 1;
+    }
+    true
 }
 
 // The set with the address behind the others, unless it is there or there is no room for it.

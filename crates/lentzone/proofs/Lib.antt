@@ -1,4 +1,5 @@
 -- Laws that belong to no one function. Crates above cite the definitions through these.
 pub mod DecodeLaws
 pub mod EncodeLaws
+pub mod NamedLaws
 pub mod PlaceLaws

@@ -13,7 +13,7 @@ use Rattle.zone.specs.declared.entry.Records.{Records}
 use Rattle.zone.specs.declared.survey.Survey.{Survey}
 use Rattle.dname.specs.Name.{nameOf}
 use Rattle.zone.specs.Meaning.{inOrder}
-use Rattle.zone.specs.Survey.{fingerprintWords, named, recordsOf, Surveyed}
+use Rattle.zone.specs.Survey.{fingerprintWords, named, placeFrom, recordsOf, Surveyed}
 use Rattle.lentzone.specs.declared.look.Look.{Look}
 use Rattle.lentzone.specs.Decode.{entryIn, zoneIn, OnePlace}
 use Rattle.lentzone.specs.Encode.{joined, set4Octets, set6Octets, entryOctets, Wide, SizedEntry}
@@ -31,6 +31,10 @@ noSurvey = record { inorder = false; distinct = false; found = 64; free = 64 }
 pub record SurveyedIn (z : List ℕ) (n : List ℕ) (r : Survey) : Type 0 where
   pub surveyed : length z ≡ 23936 → Surveyed (zoneIn z) n r
   pub otherwise : ¬ (length z ≡ 23936) → r ≡ noSurvey
+
+-- the place of a name, 64 where it is absent or the octets hold no zone
+unfoldable pub placeIn : List ℕ → List ℕ → ℕ
+placeIn z n = cond (eqb (length z) 23936) (placeFrom (named n) 0 64 (zoneIn z .entries)) 64
 
 -- ---- one place read
 

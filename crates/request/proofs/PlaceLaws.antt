@@ -55,7 +55,7 @@ few-keys (e ∷ es) = go (used e) (few-keys es)
     go true h = suc-le-suc h
     go false h = omega arith
 
-look-keys : (es : List Entry) (k : Octets) → there (look es k) ≡ member k (keys es)
+pub look-keys : (es : List Entry) (k : Octets) → there (look es k) ≡ member k (keys es)
 unfolding look keys member
 look-keys [] k = refl
 look-keys (e ∷ es) k = go (used e) (look-keys es k)
@@ -136,11 +136,11 @@ look-miss e es k m f q = go (used e) f
     go true g = rw (same-no (keyOf e) m (λ r. q (sym (g refl) ∙ r))) refl
     go false g = refl
 
-look-past : (e : Entry) (es : List Entry) (k : Octets) → (used e && sameOctets (keyOf e) k) ≡ false → look (e ∷ es) k ≡ look es k
+pub look-past : (e : Entry) (es : List Entry) (k : Octets) → (used e && sameOctets (keyOf e) k) ≡ false → look (e ∷ es) k ≡ look es k
 unfolding look
 look-past e es k h = rw h
 
-look-here : (e : Entry) (es : List Entry) (k : Octets) → (used e && sameOctets (keyOf e) k) ≡ true → look (e ∷ es) k ≡ some (hostOf e)
+pub look-here : (e : Entry) (es : List Entry) (k : Octets) → (used e && sameOctets (keyOf e) k) ≡ true → look (e ∷ es) k ≡ some (hostOf e)
 unfolding look
 look-here e es k h = rw h
 
@@ -171,11 +171,11 @@ none-there : (o : Option Host) → o ≡ none → there o ≡ false
 none-there o h = ap there h
 
 -- a used entry at the head: its key stands nowhere behind it
-head-once : (x : Entry) (es : List Entry) → used x ≡ true → distinct (keys (x ∷ es)) ≡ true → member (keyOf x) (keys es) ≡ false
+pub head-once : (x : Entry) (es : List Entry) → used x ≡ true → distinct (keys (x ∷ es)) ≡ true → member (keyOf x) (keys es) ≡ false
 unfolding keys
 head-once x es u h = distinct-head (keyOf x) (keys es) (rw u at h)
 
-tail-distinct : (x : Entry) (es : List Entry) → distinct (keys (x ∷ es)) ≡ true → distinct (keys es) ≡ true
+pub tail-distinct : (x : Entry) (es : List Entry) → distinct (keys (x ∷ es)) ≡ true → distinct (keys es) ≡ true
 unfolding keys
 tail-distinct x es h = go (used x) h
   where

@@ -1,0 +1,24 @@
+// The place of a name.
+use crate::look;
+ghost use mathlib.Core.Path.{_≡_};
+ghost use Rattle.lentzone.specs.Inner.{placeIn};
+
+// The last place of the name, as in a survey; 64 where it is absent. Other than 23,936 octets hold no
+// zone.
+pub fn place_of(z: &[u8], n: &[u8]) -> usize
+    ensures { λ r. ⌜ r ≡ placeIn (now (z .entry)) (now (n .entry)) ⌝ }
+{
+    if z.len() != 23936 {
+        return 64;
+    }
+    let mut i: usize = 64;
+    while 0 < i {
+        i -= 1;
+        let at = i * 374;
+        let end = at + 374;
+        if look::is_named(&z[at..end], n) {
+            return i;
+        }
+    }
+    64
+}

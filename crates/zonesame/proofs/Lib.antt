@@ -1,0 +1,4 @@
+-- Laws that belong to no one function. Crates above cite the definitions through these.
+pub mod HostLaws
+pub mod StandLaws
+pub mod SameLaws

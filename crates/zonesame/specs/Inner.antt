@@ -1,0 +1,43 @@
+-- What inner functions promise. No promise of an exported call cites these.
+use mathlib.Core.Path.{_≡_}
+use mathlib.Core.Bool.{Bool, true, false, cond, _&&_}
+use mathlib.Core.List.{List, [], _∷_}
+use Prim.Native.Nat.{ℕ}
+use lib.Dec.{eqb, ltb}
+use Rattle.octets.specs.Compare.{sameOctets}
+use Rattle.octets.specs.Count.{Octets}
+use Rattle.addresses.specs.Addresses.{list4, list6, within}
+use Rattle.dname.specs.Name.{nameOf}
+use Rattle.zone.specs.declared.entry.Entry.{Entry}
+use Rattle.zone.specs.declared.entry.Records.{Records}
+use Rattle.zone.specs.Meaning.{used}
+use Rattle.zone.specs.Survey.{recordsOf}
+use Rattle.lentzone.specs.Inner.{placeIn, recordsAt}
+
+-- a test tells whether a claim holds
+pub record Tells (claim : Type 0) (r : Bool) : Type 0 where
+  pub told : r ≡ true → claim
+  pub tells : claim → r ≡ true
+
+-- ---- what stands at two names
+
+unfoldable pub sameOwner : Records → Records → Bool
+sameOwner a b = cond (eqb (a .kind) 1) (eqb (b .kind) 1) (cond (eqb (b .kind) 1) false (sameOctets (a .dhcid .octets) (b .dhcid .octets)))
+
+-- each has every address of the other
+unfoldable pub sameLists : List Octets → List Octets → Bool
+sameLists l m = within l m && within m l
+
+unfoldable pub sameHost : Records → Records → Bool
+sameHost a b = sameOwner a b && (sameLists (list4 (a .v4)) (list4 (b .v4)) && sameLists (list6 (a .v6)) (list6 (b .v6)))
+
+-- ---- all that stands in a zone
+
+-- what stands at a place stands at its name in the zone that the octets hold
+unfoldable pub standsIn : List ℕ → Entry → Bool
+standsIn z e = cond (ltb (placeIn z (nameOf (e .name))) 64) (sameHost (recordsOf e) (recordsAt z (placeIn z (nameOf (e .name))))) false
+
+-- so it is at every used place
+unfoldable pub allStand : List ℕ → List Entry → Bool
+allStand z [] = true
+allStand z (e ∷ es) = cond (used e) (standsIn z e) true && allStand z es

@@ -1,0 +1,71 @@
+// Whether two zones are the same: the same names, owners and address sets, at whichever places. Both
+// are lent, 23,936 octets each in the layout of the C struct, and only read.
+mod host;
+mod stand;
+
+use lentzone::survey;
+ghost use mathlib.Core.Path.{_≡_};
+ghost use mathlib.Core.Bool.{true};
+ghost use Rattle.update.specs.Meaning.{zoneOf};
+ghost use Rattle.lentzone.specs.Decode.{zoneIn};
+ghost use Rattle.zonesame.specs.Same.{isZone, SamePromise};
+ghost use Rattle.zonesame.specs.Inner.{Tells};
+
+// refusal: 17 where the octets of either are not 23,936 or its zone breaks its form, else 0. same: 1
+// or 0; beside a refusal 0.
+#[repr(C)]
+pub struct SameAnswer {
+    pub refusal: u32,
+    pub same: u32,
+}
+
+// Whether the octets are 23,936 and their zone has its form. The survey is for no name.
+fn is_zone(z: &[u8]) -> bool
+    ensures { λ r. ⌜ r ≡ isZone (now (z .entry)) ⌝ }
+{
+    let s = survey::survey_in(z, &z[..0]);
+    if !s.inorder {
+        return false;
+    }
+    s.distinct
+}
+
+// Whether each zone has all that stands in the other.
+fn is_same(left: &[u8], right: &[u8]) -> bool
+    requires { ⌜ (isZone (now left) ≡ true) × (isZone (now right) ≡ true) ⌝ }
+    ensures { λ r. ⌜ Tells (zoneOf (zoneIn (now (left .entry))) ≡ zoneOf (zoneIn (now (right .entry)))) r ⌝ }
+{
+    if !stand::all_stand(left, right) {
+        return false;
+    }
+    stand::all_stand(right, left)
+}
+
+// Whether two zones are the same.
+#[no_mangle]
+pub extern "C" fn jespurla_zone_same(left: &[u8], right: &[u8]) -> SameAnswer
+    ensures { λ r. ⌜ SamePromise (now (left .entry)) (now (right .entry)) r ⌝ }
+{
+    if !is_zone(left) {
+        return SameAnswer {
+            refusal: 17,
+            same: 0,
+        };
+    }
+    if !is_zone(right) {
+        return SameAnswer {
+            refusal: 17,
+            same: 0,
+        };
+    }
+    if is_same(left, right) {
+        return SameAnswer {
+            refusal: 0,
+            same: 1,
+        };
+    }
+    SameAnswer {
+        refusal: 0,
+        same: 0,
+    }
+}

@@ -1,0 +1,54 @@
+// Whether all that stands in one zone stands in another.
+use crate::host;
+use lentzone::named;
+use lentzone::place;
+ghost use mathlib.Core.Path.{_≡_};
+ghost use Prim.Native.Nat.{_<_};
+ghost use lib.ListN.{length};
+ghost use Rattle.dname.specs.Name.{nameOf};
+ghost use Rattle.lentzone.specs.Decode.{entryIn, zoneIn};
+ghost use Rattle.lentzone.specs.Inner.{placeIn, rowAt};
+ghost use Rattle.zonesame.specs.Inner.{standsIn, allStand};
+
+// The place in a zone of the name that stands in the 374 octets of a place.
+fn place_for(z: &[u8], e: &[u8]) -> usize
+    requires { ⌜ length (now e) ≡ 374 ⌝ }
+    ensures { λ r. ⌜ r ≡ placeIn (now (z .entry)) (nameOf (entryIn (now (e .entry)) .name)) ⌝ }
+{
+    let end = 1 + (e[256] as usize);
+    named::place_of(z, &e[1..end])
+}
+
+// Whether what stands at a place of one zone stands at its name in another.
+fn stands(left: &[u8], place: usize, right: &[u8]) -> bool
+    requires { ⌜ (length (now left) ≡ 23936) × (place < 64) ⌝ }
+    ensures { λ r. ⌜ r ≡ standsIn (now (right .entry)) (entryIn (rowAt (now (left .entry)) place)) ⌝ }
+{
+    let at = place * 374;
+    let end = at + 374;
+    let there = place_for(right, &left[at..end]);
+    if 64 <= there {
+        return false;
+    }
+    let a = place::records_at(left, place);
+    let b = place::records_at(right, there);
+    host::is_same_host(a, b)
+}
+
+// Whether that is so at every used place.
+pub(crate) fn all_stand(left: &[u8], right: &[u8]) -> bool
+    requires { ⌜ length (now left) ≡ 23936 ⌝ }
+    ensures { λ r. ⌜ r ≡ allStand (now (right .entry)) (zoneIn (now (left .entry)) .entries) ⌝ }
+{
+    let mut i: usize = 0;
+    while i < 64 {
+        let place = i;
+        i += 1;
+        if left[place * 374] != 0 {
+            if !stands(left, place, right) {
+                return false;
+            }
+        }
+    }
+    true
+}
