@@ -1,7 +1,7 @@
 -- What a job's struct means: its stage, its kind, and a new job. Assumes nothing.
 use mathlib.Core.Path.{_≡_, refl, sym, _∙_, ap}
 use mathlib.Core.Bool.{Bool, true, false, cond}
-use mathlib.Core.Option.{some}
+use mathlib.Core.Option.{Option, none, some}
 use Prim.Native.Nat.{ℕ, suc}
 use native.Mathlib.Omega.{arith}
 use lib.Dec.{eqb}
@@ -19,7 +19,7 @@ use Rattle.update.proofs.NumberLaws.{policy-zero}
 use Rattle.job.specs.declared.job.Job.{Job}
 use Rattle.job.specs.declared.fresh.NewJob.{NewJob}
 use Rattle.job.specs.Jobs.{add, remove, Arguments, Stage, beforeA, beforeB, beforeFirst, beforeSecond, ended, End, done, conflict, gaveUp, notOurs, gone, kept, among, possible, after, passed, afterFirst, afterSecond, step}
-use Rattle.job.specs.Meaning.{stageNumber, numbered, stageAt, allowed, orKept, stageCount, stageOf, canHave, isAdd, argumentsOf, jobOf, numbersListed, freshAdd, freshRemove, blank}
+use Rattle.job.specs.Meaning.{stageNumber, numbered, stageAt, isEnd, allowed, orKept, stageCount, stageOf, canHave, isAdd, argumentsOf, jobOf, numbersListed, hasEnded, freshAdd, freshRemove, blank}
 use Rattle.job.proofs.StageLaws.{Listed, can-stage}
 use Rattle.job.specs.Promise.{newRefusal, newJob}
 
@@ -80,6 +80,20 @@ kind-step a z beforeSecond =
     remove-after (passed (removeName (a .update) z .answer)) (ended gone) (ended kept) (unfold isAdd stageNumber in refl) (unfold isAdd stageNumber in refl)
     ∙ (unfold isAdd stageNumber in refl)
 kind-step a z (ended e) = refl
+
+-- ---- a job that has ended changes nothing when stepped
+
+pub ended-stays : (j : Job) (z : abstract.Zone) → hasEnded j ≡ 1 → step (argumentsOf j) z (jobOf j .stage) ≡ record { zone = z; stage = jobOf j .stage }
+unfolding hasEnded jobOf stageOf step
+ended-stays j z h = go (stageAt (j .stage) (j .count)) h
+  where
+    go : (o : Option Stage) → _≡_ {A = ℕ} (cond (isEnd o) 1 0) 1 → step (argumentsOf j) z (orKept o) ≡ record { zone = z; stage = orKept o }
+    go none q = absurd (omega arith)
+    go (some (beforeA n)) q = absurd (omega arith)
+    go (some (beforeB n)) q = absurd (omega arith)
+    go (some beforeFirst) q = absurd (omega arith)
+    go (some beforeSecond) q = absurd (omega arith)
+    go (some (ended e)) q = refl
 
 -- ---- a job whose numbers are listed: its stage is there, has that number, and can have that count
 

@@ -1,6 +1,6 @@
 -- The numbers of stages and counts: what the tests in src/stage.rt come to. Assumes nothing.
 use mathlib.Core.Path.{_≡_, refl, sym, _∙_, ap, subst}
-use mathlib.Core.Bool.{Bool, true, false, cond, _||_, or-false, true≢false}
+use mathlib.Core.Bool.{Bool, true, false, cond, _&&_, _||_, or-false, and-false, true≢false}
 use mathlib.Core.Option.{Option, none, some}
 use mathlib.Core.List.{List, [], _∷_}
 use Prim.Native.Nat.{ℕ, zero, suc, _≤_, _<_}
@@ -10,7 +10,7 @@ use borrow.Author.Tests.{lt-leb, le-leb, ne-eqb, eqb-true}
 use Rattle.update.specs.Meaning.{listed}
 use Rattle.job.specs.declared.job.Job.{Job}
 use Rattle.job.specs.Jobs.{Stage, among, possible}
-use Rattle.job.specs.Meaning.{stageNumber, stages, numbered, stageAt, allowed, canHave, isAdd, numbersListed}
+use Rattle.job.specs.Meaning.{stageNumber, stages, numbered, stageAt, isEnd, allowed, canHave, isAdd, numbersListed, hasEnded}
 use Rattle.update.proofs.ZoneLaws.{some≢none}
 
 -- a fact of the numbers of a list holds of each number among them
@@ -163,6 +163,49 @@ can-remove (suc (suc (suc (suc (suc (suc (suc (suc (suc (suc (suc (suc (suc (suc
 can-remove (suc (suc (suc (suc (suc (suc (suc (suc (suc (suc (suc (suc (suc (suc (suc zero))))))))))))))) n h = refl
 can-remove (suc (suc (suc (suc (suc (suc (suc (suc (suc (suc (suc (suc (suc (suc (suc (suc s)))))))))))))))) n h =
     lt-leb (suc (suc (suc (suc (suc (suc (suc (suc (suc (suc (suc (suc (suc (suc (suc (suc s)))))))))))))))) 15 (omega arith) ∙ sym (ap allowed (not-listed (suc (suc (suc (suc (suc (suc (suc (suc (suc (suc (suc (suc (suc (suc (suc (suc s)))))))))))))))) n (omega arith)))
+
+-- ---- the ends
+
+abbrev endNumber : ℕ → Bool
+endNumber s = (leb 3 s && leb s 6) || (leb 13 s && leb s 15)
+
+end-above : (s n : ℕ) → 15 < s → isEnd (stageAt s n) ≡ endNumber s
+end-above s n h = ap isEnd (not-listed s n h) ∙ sym (rw (lt-leb s 6 (omega arith), lt-leb s 15 h, and-false (leb 3 s), and-false (leb 13 s)) refl)
+
+-- 3 to 6 and 13 to 15
+pub end-number : (s n : ℕ) → isEnd (stageAt s n) ≡ endNumber s
+unfolding stageAt numbered stageNumber
+end-number zero n = refl
+end-number (suc zero) n = refl
+end-number (suc (suc zero)) n = refl
+end-number (suc (suc (suc zero))) n = refl
+end-number (suc (suc (suc (suc zero)))) n = refl
+end-number (suc (suc (suc (suc (suc zero))))) n = refl
+end-number (suc (suc (suc (suc (suc (suc zero)))))) n = refl
+end-number (suc (suc (suc (suc (suc (suc (suc zero))))))) n = refl
+end-number (suc (suc (suc (suc (suc (suc (suc (suc zero)))))))) n = refl
+end-number (suc (suc (suc (suc (suc (suc (suc (suc (suc zero))))))))) n = refl
+end-number (suc (suc (suc (suc (suc (suc (suc (suc (suc (suc zero)))))))))) n = refl
+end-number (suc (suc (suc (suc (suc (suc (suc (suc (suc (suc (suc zero))))))))))) n = refl
+end-number (suc (suc (suc (suc (suc (suc (suc (suc (suc (suc (suc (suc zero)))))))))))) n = refl
+end-number (suc (suc (suc (suc (suc (suc (suc (suc (suc (suc (suc (suc (suc zero))))))))))))) n = refl
+end-number (suc (suc (suc (suc (suc (suc (suc (suc (suc (suc (suc (suc (suc (suc zero)))))))))))))) n = refl
+end-number (suc (suc (suc (suc (suc (suc (suc (suc (suc (suc (suc (suc (suc (suc (suc zero))))))))))))))) n = refl
+end-number (suc (suc (suc (suc (suc (suc (suc (suc (suc (suc (suc (suc (suc (suc (suc (suc s)))))))))))))))) n = end-above (suc (suc (suc (suc (suc (suc (suc (suc (suc (suc (suc (suc (suc (suc (suc (suc s)))))))))))))))) n (omega arith)
+
+module _ (j : Job) where
+  pub ended-add : (leb 3 (j .stage) && leb (j .stage) 6) ≡ true → hasEnded j ≡ 1
+  unfolding hasEnded
+  ended-add a = rw (end-number (j .stage) (j .count), a)
+
+  module _ (a : (leb 3 (j .stage) && leb (j .stage) 6) ≡ false) where
+    pub ended-remove : (leb 13 (j .stage) && leb (j .stage) 15) ≡ true → hasEnded j ≡ 1
+    unfolding hasEnded
+    ended-remove b = rw (end-number (j .stage) (j .count), a, b)
+
+    pub not-ended : (leb 13 (j .stage) && leb (j .stage) 15) ≡ false → hasEnded j ≡ 0
+    unfolding hasEnded
+    not-ended b = rw (end-number (j .stage) (j .count), a, b)
 
 -- ---- a job's numbers
 

@@ -1,5 +1,5 @@
 -- What the structs of a job mean, and their numbers. Document 01, "Zone, requests and jobs".
-use mathlib.Core.Bool.{Bool, false, cond, _&&_}
+use mathlib.Core.Bool.{Bool, true, false, cond, _&&_}
 use mathlib.Core.List.{List, [], _∷_}
 use mathlib.Core.Option.{Option, none, some}
 use Prim.Native.Nat.{ℕ}
@@ -11,7 +11,7 @@ use Rattle.zone.specs.declared.entry.Address.{Address}
 use Rattle.update.specs.Meaning.{listed, policyOf, updateOf}
 use Rattle.job.specs.declared.job.Job.{Job}
 use Rattle.job.specs.Jobs as rules
-use Rattle.job.specs.Jobs.{add, remove, Arguments, done, conflict, noRoom, gaveUp, notOurs, gone, kept, Stage, beforeA, beforeB, beforeFirst, beforeSecond, ended, possible, sent}
+use Rattle.job.specs.Jobs.{add, remove, Arguments, done, conflict, noRoom, gaveUp, notOurs, gone, kept, Stage, beforeA, beforeB, beforeFirst, beforeSecond, ended, possible, firstStage, sent}
 
 -- ---- the numbers of stages
 
@@ -60,6 +60,15 @@ orKept (some s) = s
 unfoldable pub stageOf : ℕ → ℕ → Stage
 stageOf stage count = orKept (stageAt stage count)
 
+-- A stage is an end, and nothing is where the number is not listed.
+abbrev pub isEnd : Option Stage → Bool
+isEnd none = false
+isEnd (some (beforeA n)) = false
+isEnd (some (beforeB n)) = false
+isEnd (some beforeFirst) = false
+isEnd (some beforeSecond) = false
+isEnd (some (ended e)) = true
+
 -- The count at a stage: an add's is the stage's; a remove has none, and keeps whatever number stood there.
 abbrev pub counted : Stage → Option ℕ
 counted (beforeA n) = some n
@@ -107,12 +116,16 @@ atStage j s = record {
 unfoldable pub numbersListed : Job → Bool
 numbersListed j = listed (j .family) (cond (isAdd (j .stage)) (j .policy) 0) && canHave (j .stage) (j .count)
 
+-- Whether the stage that its number stands for is an end: 1 for yes, 0 for no. Its count makes no difference.
+unfoldable pub hasEnded : Job → ℕ
+hasEnded j = cond (isEnd (stageAt (j .stage) (j .count))) 1 0
+
 -- A fresh job of each kind. A remove has no policy and no count: 0 stands there.
 unfoldable pub freshAdd : Name → Dhcid → ℕ → Address → ℕ → Job
-freshAdd n d family a policy = record { stage = 1; count = 0; family = family; policy = policy; name = n; dhcid = d; address = a }
+freshAdd n d family a policy = record { stage = stageNumber (firstStage add); count = 0; family = family; policy = policy; name = n; dhcid = d; address = a }
 
 unfoldable pub freshRemove : Name → Dhcid → ℕ → Address → Job
-freshRemove n d family a = record { stage = 11; count = 0; family = family; policy = 0; name = n; dhcid = d; address = a }
+freshRemove n d family a = record { stage = stageNumber (firstStage remove); count = 0; family = family; policy = 0; name = n; dhcid = d; address = a }
 
 -- The one job that a refused call gives: nothing but zeros, which is no job.
 unfoldable pub blank : Job

@@ -5,8 +5,10 @@ use addresses::set4::Set4;
 use addresses::set6;
 use addresses::set6::Addr6;
 use addresses::set6::Set6;
+use dname::name::Name;
 use octets::write;
 use zone::entry::Dhcid;
+use zone::entry::Entry;
 use zone::entry::Records;
 ghost use mathlib.Core.Path.{_≡_};
 ghost use mathlib.Core.Bool.{_&&_};
@@ -81,6 +83,37 @@ pub(crate) fn records_in(e: &[u8]) -> Records
     let v6 = set6_in(&e[309..374]);
     Records {
         kind: e[0],
+        dhcid: dhcid,
+        v4: v4,
+        v6: v6,
+    }
+}
+
+fn name_in(s: &[u8], len: u8) -> Name
+    requires { ⌜ length (now s) ≡ 255 ⌝ }
+    ensures { λ r. ⌜ r ≡ record { octets = now (s .entry); len = len } ⌝ }
+{
+    let mut o = [0u8; 255];
+    write::put_octets(&mut o, 0, s);
+    Name {
+        octets: o,
+        len: len,
+    }
+}
+
+// The whole place: what stands there, and its name.
+pub(crate) fn entry_in(e: &[u8]) -> Entry
+    requires { ⌜ length (now e) ≡ 374 ⌝ }
+    ensures { λ r. ⌜ r ≡ entryIn (now (e .entry)) ⌝ }
+{
+    let name = name_in(&e[1..256], e[256]);
+    let r = records_in(e);
+    let dhcid = r.dhcid;
+    let v4 = r.v4;
+    let v6 = r.v6;
+    Entry {
+        kind: r.kind,
+        name: name,
         dhcid: dhcid,
         v4: v4,
         v6: v6,

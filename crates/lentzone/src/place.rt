@@ -4,12 +4,13 @@ use crate::decode;
 use crate::encode;
 use dname::name::Name;
 use octets::write;
+use zone::entry::Entry;
 use zone::entry::Records;
 ghost use mathlib.Core.Path.{_≡_};
 ghost use lib.ListN.{replicate};
 ghost use Rattle.zone.specs.Survey.{placeOf, recordsOf};
 ghost use Rattle.lentzone.specs.Decode.{entryIn};
-ghost use Rattle.lentzone.specs.Inner.{recordsAt, nameAt, Written};
+ghost use Rattle.lentzone.specs.Inner.{rowAt, recordsAt, nameAt, Written};
 
 // What stands in a place of zeros.
 fn nothing() -> Records
@@ -17,6 +18,14 @@ fn nothing() -> Records
 {
     let blank = [0u8; 374];
     decode::records_in(&blank)
+}
+
+// A place of zeros.
+fn free_entry() -> Entry
+    ensures { λ r. ⌜ r ≡ entryIn (replicate 374 0) ⌝ }
+{
+    let blank = [0u8; 374];
+    decode::entry_in(&blank)
 }
 
 // What stands at a place; as in a place of zeros where there is no such place.
@@ -32,6 +41,21 @@ pub fn records_at(z: &[u8], place: usize) -> Records
     let at = place * 374;
     let end = at + 374;
     decode::records_in(&z[at..end])
+}
+
+// A place whole, octet for octet; zeros where there is no such place.
+pub fn entry_at(z: &[u8], place: usize) -> Entry
+    ensures { λ r. ⌜ r ≡ entryIn (rowAt (now (z .entry)) place) ⌝ }
+{
+    if z.len() != 23936 {
+        return free_entry();
+    }
+    if 64 <= place {
+        return free_entry();
+    }
+    let at = place * 374;
+    let end = at + 374;
+    decode::entry_in(&z[at..end])
 }
 
 // What stands at a place written; its name stays.

@@ -193,7 +193,7 @@ there-at (x ∷ es) (suc i) b k p u = go (used x && sameOctets (keyOf x) k) (the
     go true h = refl
     go false h = h
 
-alone-found : (es : List Entry) (i : ℕ) (b : Entry) (k : Octets) → i < length es → (used (getD es i b) && sameOctets (keyOf (getD es i b)) k) ≡ true
+pub alone-found : (es : List Entry) (i : ℕ) (b : Entry) (k : Octets) → i < length es → (used (getD es i b) && sameOctets (keyOf (getD es i b)) k) ≡ true
     → distinct (keys es) ≡ true → Alone i k es
 alone-found [] i b k p u d = tt
 alone-found (x ∷ es) zero b k p u d =
@@ -290,14 +290,14 @@ place p b i otherwise (x ∷ l) = go (p x) refl (place p b (suc i) (cond (p x) i
     go false q (nowhere e n) = nowhere (e ∙ rw q) (q, n)
 
 module _ {A : Type 0} (p : A → Bool) (b : A) (l : List A) (r : ℕ) (w : r ≡ placeFrom p 0 64 l) where
-  here-at : r < 64 → (r < length l) × (p (getD l r b) ≡ true)
+  pub here-at : r < 64 → (r < length l) × (p (getD l r b) ≡ true)
   here-at h = go (place p b 0 64 l)
     where
       go : Place p b 0 64 l (placeFrom p 0 64 l) → (r < length l) × (p (getD l r b) ≡ true)
       go (here at e k t) = let q : r ≡ at = omega arith in (omega arith, ap (λ (i : ℕ). p (getD l i b)) q ∙ t)
       go (nowhere e n) = absurd (omega arith)
 
-  here-none : length l ≡ 64 → ¬ (r < 64) → None p l
+  pub here-none : length l ≡ 64 → ¬ (r < 64) → None p l
   here-none m h = go (place p b 0 64 l)
     where
       go : Place p b 0 64 l (placeFrom p 0 64 l) → None p l
