@@ -1,7 +1,7 @@
 -- Two zones of which each has all that stands in the other are the same, and only those; and what the call's answers are made of. Assumes
 -- nothing.
-use mathlib.Core.Path.{_≡_, refl, sym, _∙_, ap}
-use mathlib.Core.Bool.{Bool, true, false, cond, _&&_, true≢false, and-false}
+use mathlib.Core.Path.{_≡_, refl, sym, _∙_, ap, subst}
+use mathlib.Core.Bool.{Bool, true, false, cond, _&&_, true≢false}
 use mathlib.Core.List.{List}
 use mathlib.Core.Option.{Option, none, some}
 use Prim.Native.Nat.{ℕ, _≤_}
@@ -10,14 +10,14 @@ use native.Mathlib.Omega.{arith}
 use lib.Dec.{eqb}
 use lib.ListN.{length}
 use borrow.Author.Tests.{eqb-true, eq-eqb, ne-eqb}
-use Rattle.octets.proofs.BoolLaws.{and-both, and-left, and-right}
+use Rattle.octets.proofs.BoolLaws.{and-left, and-right}
 use Rattle.octets.specs.Count.{Octets, distinct}
 use Rattle.zone.specs.declared.survey.Survey.{Survey}
 use Rattle.zone.specs.Meaning.{keys, allInOrder, formed}
 use Rattle.update.specs.Rules as rules
 use Rattle.update.specs.Rules.{Host}
-use Rattle.update.specs.Meaning.{look, zoneOf}
-use Rattle.update.proofs.ZoneLaws.{option-case, some≢none, same-zone}
+use Rattle.update.specs.Meaning.{zoneOf}
+use Rattle.update.proofs.ZoneLaws.{same-zone}
 use Rattle.lentzone.specs.Decode.{zoneIn}
 use Rattle.lentzone.specs.Inner.{SurveyedIn}
 use Rattle.request.proofs.PlaceLaws.{formed-order, formed-names, form-of}
@@ -26,11 +26,11 @@ use Rattle.zonesame.specs.Same.{isZone, sameRefusal, SamePromise}
 use Rattle.zonesame.specs.Inner.{allStand, Tells}
 use Rattle.zonesame.proofs.StandLaws.{all-told, all-tell}
 
-pub zone-length : (z : List ℕ) → isZone z ≡ true → length z ≡ 23936
+zone-length : (z : List ℕ) → isZone z ≡ true → length z ≡ 23936
 unfolding isZone
 zone-length z h = eqb-true (length z) 23936 (and-left (eqb (length z) 23936) (formed (zoneIn z)) h)
 
-pub zone-form : (z : List ℕ) → isZone z ≡ true → formed (zoneIn z) ≡ true
+zone-form : (z : List ℕ) → isZone z ≡ true → formed (zoneIn z) ≡ true
 unfolding isZone
 zone-form z h = and-right (eqb (length z) 23936) (formed (zoneIn z)) h
 
@@ -60,7 +60,7 @@ module _ (left right : List ℕ) (p : isZone left ≡ true) (q : isZone right �
   has-all t k h e =
       all-told right (zone-length right q) (zone-form right q) (zoneIn left .entries) (formed-order (zoneIn left) (zone-form left p)) t k h (unfold zoneOf in e)
 
-  pub all-of : zoneOf (zoneIn left) ≡ zoneOf (zoneIn right) → allStand right (zoneIn left .entries) ≡ true
+  all-of : zoneOf (zoneIn left) ≡ zoneOf (zoneIn right) → allStand right (zoneIn left .entries) ≡ true
   all-of e =
       all-tell right (zone-length right q) (zone-form right q) (zoneIn left .entries) (formed-order (zoneIn left) (zone-form left p)) (formed-names (zoneIn left) (zone-form left p))
       (λ k h s. ap (λ (x : rules.Zone). x .at k) (sym e) ∙ (unfold zoneOf in s))
@@ -71,14 +71,26 @@ agree none none f g = refl
 agree none (some h) f g = g h refl
 agree (some h) y f g = sym (f h refl)
 
-module _ (left right : List ℕ) (p : isZone left ≡ true) (q : isZone right ≡ true) where
-  abbrev Same : Type 0
-  Same = zoneOf (zoneIn left) ≡ zoneOf (zoneIn right)
+abbrev Same : List ℕ → List ℕ → Type 0
+Same left right = zoneOf (zoneIn left) ≡ zoneOf (zoneIn right)
 
-  pub lacks : allStand right (zoneIn left .entries) ≡ false → Tells Same false
+module _ (left right : List ℕ) (both : (isZone left && isZone right) ≡ true) where
+  p : isZone left ≡ true
+  p = and-left (isZone left) (isZone right) both
+
+  q : isZone right ≡ true
+  q = and-right (isZone left) (isZone right) both
+
+  pub left-length : length left ≡ 23936
+  left-length = zone-length left p
+
+  pub right-length : length right ≡ 23936
+  right-length = zone-length right q
+
+  pub lacks : allStand right (zoneIn left .entries) ≡ false → Tells (Same left right) false
   lacks h = record { told = λ e. absurd (true≢false (sym e)); tells = λ e. absurd (true≢false (sym (all-of left right p q e) ∙ h)) }
 
-  pub both-ways : allStand right (zoneIn left .entries) ≡ true → (b : Bool) → b ≡ allStand left (zoneIn right .entries) → Tells Same b
+  pub both-ways : allStand right (zoneIn left .entries) ≡ true → (b : Bool) → b ≡ allStand left (zoneIn right .entries) → Tells (Same left right) b
   both-ways h b k = record {
     told = λ e.
         same-zone (zoneOf (zoneIn left)) (zoneOf (zoneIn right)) (form-of (zoneIn left) (zone-form left p)) (form-of (zoneIn right) (zone-form right q))
@@ -101,34 +113,24 @@ module _ (left right : List ℕ) where
     saysSame = λ (h : sameRefusal left right ≡ 0) s. absurd (omega arith);
   }
 
-  pub promise-left : isZone left ≡ false → SamePromise left right (answer 17 0)
-  promise-left h = promise-17 (unfold sameRefusal in rw h)
+  pub promise-refused : (isZone left && isZone right) ≡ false → SamePromise left right (answer 17 0)
+  promise-refused h = promise-17 (unfold sameRefusal in rw h)
 
-  pub promise-right : isZone right ≡ false → SamePromise left right (answer 17 0)
-  promise-right h = promise-17 (unfold sameRefusal in rw (h, and-false (isZone left)))
+  pub promise-told : (isZone left && isZone right) ≡ true → (b : Bool) (n : ℕ) → n ≡ cond b 1 0 → Tells (Same left right) b → SamePromise left right (answer 0 n)
+  promise-told h b n e t = subst (λ (k : ℕ). SamePromise left right (answer 0 k)) (sym e) (go b t)
+    where
+      none : sameRefusal left right ≡ 0
+      none = unfold sameRefusal in rw h
 
-  module _ (p : isZone left ≡ true) (q : isZone right ≡ true) where
-    none-refused : sameRefusal left right ≡ 0
-    unfolding sameRefusal
-    none-refused = rw (p, q)
-
-    pub promise-same : Same left right p q → SamePromise left right (answer 0 1)
-    promise-same s = record {
-      refusalIs = sym none-refused;
-      oneOrNone = omega arith;
-      refused = λ n. absurd (n none-refused);
-      meansSame = λ h. s;
-      saysSame = λ h t. refl;
-    }
-
-    pub promise-other : ¬ Same left right p q → SamePromise left right (answer 0 0)
-    promise-other n = record {
-      refusalIs = sym none-refused;
-      oneOrNone = omega arith;
-      refused = λ h. refl;
-      meansSame = λ (h : _≡_ {A = ℕ} 0 1). absurd (omega arith);
-      saysSame = λ h s. absurd (n s);
-    }
+      go : (c : Bool) → Tells (Same left right) c → SamePromise left right (answer 0 (cond c 1 0))
+      go true u = record { refusalIs = sym none; oneOrNone = omega arith; refused = λ m. absurd (m none); meansSame = λ k. u .told refl; saysSame = λ k s. refl }
+      go false u = record {
+        refusalIs = sym none;
+        oneOrNone = omega arith;
+        refused = λ m. refl;
+        meansSame = λ (k : _≡_ {A = ℕ} 0 1). absurd (omega arith);
+        saysSame = λ k s. absurd (true≢false (sym (u .tells s)));
+      }
 
   -- it determines the answer
   pub determined : (r s : SameAnswer) → SamePromise left right r → SamePromise left right s → r ≡ s

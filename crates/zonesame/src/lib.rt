@@ -5,7 +5,7 @@ mod stand;
 
 use lentzone::survey;
 ghost use mathlib.Core.Path.{_≡_};
-ghost use mathlib.Core.Bool.{true};
+ghost use mathlib.Core.Bool.{true, cond, _&&_};
 ghost use Rattle.update.specs.Meaning.{zoneOf};
 ghost use Rattle.lentzone.specs.Decode.{zoneIn};
 ghost use Rattle.zonesame.specs.Same.{isZone, SamePromise};
@@ -30,9 +30,19 @@ fn is_zone(z: &[u8]) -> bool
     s.distinct
 }
 
+// Whether both hold a zone.
+fn are_zones(left: &[u8], right: &[u8]) -> bool
+    ensures { λ r. ⌜ r ≡ (isZone (now (left .entry)) && isZone (now (right .entry))) ⌝ }
+{
+    if !is_zone(left) {
+        return false;
+    }
+    is_zone(right)
+}
+
 // Whether each zone has all that stands in the other.
 fn is_same(left: &[u8], right: &[u8]) -> bool
-    requires { ⌜ (isZone (now left) ≡ true) × (isZone (now right) ≡ true) ⌝ }
+    requires { ⌜ (isZone (now left) && isZone (now right)) ≡ true ⌝ }
     ensures { λ r. ⌜ Tells (zoneOf (zoneIn (now (left .entry))) ≡ zoneOf (zoneIn (now (right .entry)))) r ⌝ }
 {
     if !stand::all_stand(left, right) {
@@ -41,31 +51,26 @@ fn is_same(left: &[u8], right: &[u8]) -> bool
     stand::all_stand(right, left)
 }
 
+fn as_number(b: bool) -> u32
+    ensures { λ r. ⌜ r ≡ cond b 1 0 ⌝ }
+{
+    if b { 1 } else { 0 }
+}
+
 // Whether two zones are the same.
 #[no_mangle]
 pub extern "C" fn jespurla_zone_same(left: &[u8], right: &[u8]) -> SameAnswer
     ensures { λ r. ⌜ SamePromise (now (left .entry)) (now (right .entry)) r ⌝ }
 {
-    if !is_zone(left) {
+    if !are_zones(left, right) {
         return SameAnswer {
             refusal: 17,
             same: 0,
         };
     }
-    if !is_zone(right) {
-        return SameAnswer {
-            refusal: 17,
-            same: 0,
-        };
-    }
-    if is_same(left, right) {
-        return SameAnswer {
-            refusal: 0,
-            same: 1,
-        };
-    }
+    let same = is_same(left, right);
     SameAnswer {
         refusal: 0,
-        same: 0,
+        same: as_number(same),
     }
 }
