@@ -14,7 +14,7 @@ use Rattle.clock.specs.Clock.{isMoment}
 use Rattle.lease.specs.declared.Lease.{Lease}
 use Rattle.lease.specs.Lease.{noLease, activeAt, wellFormed, lengthsFit, momentsFit, hardwareFits}
 use Rattle.leasepacket.specs.Query.{Asked, refused, byAddress, byHardware, byClientId, firstOf, asking}
-use Rattle.leasetable.specs.Table.{tableFits, risesFrom, those, ranked}
+use Rattle.leasetable.specs.Table.{countFits, tableFits, risesFrom, those, ranked}
 use Rattle.octets.specs.Write.{laid}
 use Rattle.leasereply.specs.Reply.{otherReply, activeReply}
 use Rattle.leasequery.specs.Answer.{Outcome, refusal, reply, told, written, hasKey, byAddressOf, byClientOf, leasesOf, answerBy, askedOf, answer}
@@ -123,7 +123,7 @@ never-unassigned c (inr (o, a)) e =
 -- ---- what the buffer holds
 rises : (t : List Lease) → tableFits t ≡ true → risesFrom 0 t ≡ true
 unfolding tableFits
-rises t e = and-right (leb (length t) 256) (risesFrom 0 t) e
+rises t e = and-right (countFits (length t)) (risesFrom 0 t) e
 
 table-fits : (c : Call) → c .result .refusal ≡ 0 → tableFits (c .table) ≡ true
 unfolding answer askedOf answerBy firstOf

@@ -20,8 +20,8 @@ use Rattle.leasepacket.proofs.QueryLaws.{Sound, asking-sound}
 use Rattle.leasetable.specs.declared.client.Key.{Key}
 use Rattle.leasetable.specs.declared.record.Record.{Record}
 use Rattle.leasetable.specs.declared.look.Found.{Found}
-use Rattle.leasetable.specs.Table.{tableFits, risesFrom, those, placed, ranked}
-use Rattle.leasetable.specs.Folds.{formStart, formTurn, clientHas, noRank, associatedFrom, recordFor, found, looked}
+use Rattle.leasetable.specs.Table.{countFits, tableFits, risesFrom, those, placed, ranked}
+use Rattle.leasetable.specs.Folds.{formOf, clientHas, noRank, associatedFrom, recordFor, found, looked}
 use Rattle.leasetable.proofs.FormLaws.{form-whole}
 use Rattle.leasetable.proofs.CandidateLaws.{reached-none}
 use Rattle.leasetable.proofs.LookLaws.{Looked, client-looked, record-fold, Above, above-those}
@@ -136,7 +136,7 @@ module _ (clock : Moment) (server : ℕ) (ps os : List ℕ) (t : List Lease) whe
 -- what is asked is sound, and with no refusal the buffer is long enough and the addresses rise
 fit-rises : (t : List Lease) → not (tableFits t) ≡ false → risesFrom 0 t ≡ true
 unfolding tableFits
-fit-rises t e = go (leb (length t) 256) (risesFrom 0 t) e
+fit-rises t e = go (countFits (length t)) (risesFrom 0 t) e
   where
     go : (a b : Bool) → not (a && b) ≡ false → b ≡ true
     go true true h = refl
@@ -151,14 +151,11 @@ asked-sound clock t ps room =
     (λ f. cases (ltb room 648) (λ g. rw (e, f, g) ((λ z. omega (arith, z)), (λ z. absurd (omega (arith, z)))))
     (λ g. rw (e, f, g) (asking-sound ps, (λ z. (ltb-false room 648 g, fit-rises t f))))))
 
-abbrev pub keptForm : List Lease → Bool
-keptForm t = leb (length t) 256 && (foldl formTurn formStart t) .ok
-
-same-asked : (clock : Moment) (t : List Lease) (ps : List ℕ) (room : ℕ) → askedAt clock (keptForm t) ps room ≡ askedOf clock t ps room
+same-asked : (clock : Moment) (t : List Lease) (ps : List ℕ) (room : ℕ) → askedAt clock (formOf t .ok) ps room ≡ askedOf clock t ps room
 unfolding askedAt askedOf firstOf
 same-asked clock t ps room = rw (form-whole t)
 
-pub answered : (clock : Moment) (ys : List Lease) (server : ℕ) (ps os : List ℕ) → concluded (looked (noCandidates clock (refusalIn (askedAt clock (keptForm ys) ps (length os))) (keyFor (askedAt clock (keptForm ys) ps (length os)))) ys) server ps os ≡ answer clock ys server ps (length os)
+pub answered : (clock : Moment) (ys : List Lease) (server : ℕ) (ps os : List ℕ) → concluded (looked (noCandidates clock (refusalIn (askedAt clock (formOf ys .ok) ps (length os))) (keyFor (askedAt clock (formOf ys .ok) ps (length os)))) ys) server ps os ≡ answer clock ys server ps (length os)
 unfolding answer
 answered clock ys server ps os =
     let s = asked-sound clock ys ps (length os) in

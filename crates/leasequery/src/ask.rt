@@ -10,15 +10,10 @@ use leasetable::client::Key;
 use leasetable::form::Form;
 use octets::write;
 ghost use mathlib.Core.Path.{_≡_};
-ghost use mathlib.Core.Bool.{_&&_};
-ghost use lib.Dec.{leb};
 ghost use Prim.Native.Nat.{_-_, min};
 ghost use Rattle.leasepacket.specs.Packet.{part};
 ghost use Rattle.leasepacket.specs.Reading.{asked};
 ghost use Rattle.leasequery.specs.Stages.{padded, keyFor, idKey, refusalIn, noCandidates, startFor, askedAt};
-
-// The most records that a table has.
-const LONGEST_TABLE: usize = 256;
 
 // How many of n octets from a place on there are.
 fn available(len: usize, at: usize, n: usize) -> usize
@@ -128,16 +123,6 @@ fn start(clock: Moment, refusal: u32, key: Key) -> Candidates
     }
 }
 
-// Whether a table of so many records keeps its form.
-fn does_fit(table: Form, count: usize) -> bool
-    ensures { λ r. ⌜ r ≡ (leb count 256 && table .ok) ⌝ }
-{
-    if LONGEST_TABLE < count {
-        return false;
-    }
-    table.ok
-}
-
 // The refusals in their order: 15, 9, 8, then those of the packet.
 fn first_refusal(clock: Moment, ok: bool, p: &[u8], room: usize) -> Query
     ensures { λ r. ⌜ asked (now (p .entry)) r ≡ askedAt clock ok (now (p .entry)) room ⌝ }
@@ -155,11 +140,10 @@ fn first_refusal(clock: Moment, ok: bool, p: &[u8], room: usize) -> Query
 }
 
 // What is looked for.
-pub fn ask(clock: Moment, table: Form, count: usize, p: &[u8], room: usize) -> Candidates
-    ensures { λ r. ⌜ r ≡ startFor clock (askedAt clock (leb count 256 && table .ok) (now (p .entry)) room) ⌝ }
+pub fn ask(clock: Moment, table: Form, p: &[u8], room: usize) -> Candidates
+    ensures { λ r. ⌜ r ≡ startFor clock (askedAt clock (table .ok) (now (p .entry)) room) ⌝ }
 {
-    let ok = does_fit(table, count);
-    let q = first_refusal(clock, ok, p, room);
+    let q = first_refusal(clock, table.ok, p, room);
     let refusal = refusal_of(p, q);
     let key = key_for(p, q);
     start(clock, refusal, key)

@@ -29,9 +29,9 @@ pub extern "C" fn jespurla_lease_query(
 ) -> LeaseAnswer
     ensures { λ r. ⌜ LeasePromise clock (now (table .entry)) server (now (query .entry)) (now (reply .entry)) r (now (reply .exit)) ⌝ }
 {
-    let shape = form::scan(table, form::start());
-    let room = reply.len();
     let count = table.len();
-    let found = look::look(table, ask::ask(clock, shape, count, query, room));
+    let shape = form::scan(table, form::start(count));
+    let room = reply.len();
+    let found = look::look(table, ask::ask(clock, shape, query, room));
     conclude::conclude(found, server, query, reply)
 }

@@ -4,14 +4,14 @@ use mathlib.Core.Bool.{Bool, true, false, _&&_}
 use mathlib.Core.List.{List, [], _∷_, foldl}
 use Prim.Native.Nat.{ℕ, _<_}
 use lib.ListN.{length}
-use lib.Dec.{ltb, leb}
+use lib.Dec.{ltb}
 use borrow.Author.Tests.{ltb-true}
 use Rattle.octets.proofs.BoolLaws.{and-left, and-right}
 use Rattle.lease.specs.declared.Lease.{Lease}
 use Rattle.lease.specs.Lease.{wellFormed}
 use Rattle.leasetable.specs.declared.form.Form.{Form}
-use Rattle.leasetable.specs.Table.{tableFits, risesFrom}
-use Rattle.leasetable.specs.Folds.{formGood, formBad, formStart, formAdd, formTurn}
+use Rattle.leasetable.specs.Table.{countFits, tableFits, risesFrom}
+use Rattle.leasetable.specs.Folds.{formGood, formBad, formAdd, formTurn, formFrom, formOf}
 
 -- ---- the scan
 bad-stays : (t : List Lease) → (foldl formTurn formBad t) .ok ≡ false
@@ -35,10 +35,14 @@ unfolding risesFrom
 form-law p [] = refl
 form-law p (x ∷ xs) = more p x xs (form-law (x .address) xs) (ltb p (x .address)) refl (wellFormed x) refl
 
--- from the start, the scan and the number of records say whether the table keeps its form
-pub form-whole : (t : List Lease) → (leb (length t) 256 && (foldl formTurn formStart t) .ok) ≡ tableFits t
+-- from the start, the scan says whether the table keeps its form
+pub form-whole : (t : List Lease) → formOf t .ok ≡ tableFits t
 unfolding tableFits
-form-whole t = ap (λ (b : Bool). leb (length t) 256 && b) (form-law 0 t)
+form-whole t = go (countFits (length t))
+  where
+    go : (b : Bool) → formFrom (record { ok = b; last = 0 }) t .ok ≡ (b && risesFrom 0 t)
+    go true = form-law 0 t
+    go false = refl
 
 -- ---- a table that keeps its form: its first record, and those behind it
 module _ (a : ℕ) (x : Lease) (xs : List Lease) (e : risesFrom a (x ∷ xs) ≡ true) where

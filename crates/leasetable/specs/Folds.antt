@@ -1,10 +1,10 @@
 -- What the scans carry from record to record. Only the contracts of the scans, of their steps and of `look` cite this; none is exported.
 -- Of each scan: `Off` where it has nothing to look for, `Wants` where a record is to be noted, `Add` the record noted, and `Turn`, one turn of its loop.
 use Prim.Native.Nat.{ℕ, _+_, min}
-use mathlib.Core.Bool.{Bool, true, false, cond, _&&_}
+use mathlib.Core.Bool.{Bool, true, false, cond, not, _&&_}
 use mathlib.Core.List.{List, [], _∷_, _++_, foldl}
 use lib.Dec.{ltb, eqb}
-use lib.ListN.{take, drop, getD, replicate, set}
+use lib.ListN.{length, take, drop, getD, replicate, set}
 use Rattle.clock.specs.declared.Moment.{Moment}
 use Rattle.clock.specs.Clock.{moment}
 use Rattle.lease.specs.declared.Lease.{Lease}
@@ -16,6 +16,7 @@ use Rattle.leasetable.specs.declared.candidates.Candidates.{Candidates}
 use Rattle.leasetable.specs.declared.associated.Associated.{Associated}
 use Rattle.leasetable.specs.declared.record.Record.{Record}
 use Rattle.leasetable.specs.declared.look.Found.{Found}
+use Rattle.leasetable.specs.Table.{countFits}
 
 -- ---- the form of the table
 -- the records so far keep the form, and the last has this address
@@ -26,12 +27,12 @@ formGood address = record { ok = true; last = address }
 abbrev pub formBad : Form
 formBad = record { ok = false; last = 0 }
 
--- no record is passed yet
-abbrev pub formStart : Form
-formStart = formGood 0
+-- no record is passed yet of so many
+abbrev pub formStart : ℕ → Form
+formStart count = record { ok = countFits count; last = 0 }
 
 abbrev pub formOff : Form → Bool
-formOff a = false
+formOff a = not (a .ok)
 
 abbrev pub formWants : Form → Lease → Bool
 formWants a x = a .ok
@@ -41,6 +42,13 @@ formAdd a x = cond (ltb (a .last) (x .address) && wellFormed x) (formGood (x .ad
 
 abbrev pub formTurn : Form → Lease → Form
 formTurn a x = cond (formWants a x) (formAdd a x) a
+
+-- the whole scan, and from the start
+abbrev pub formFrom : Form → List Lease → Form
+formFrom a t = cond (formOff a) a (foldl formTurn a t)
+
+abbrev pub formOf : List Lease → Form
+formOf t = formFrom (formStart (length t)) t
 
 -- ---- the leases of a client
 -- the lease has the hardware address or the client id

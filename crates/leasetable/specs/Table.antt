@@ -12,9 +12,13 @@ unfoldable pub risesFrom : ℕ → List Lease → Bool
 risesFrom address [] = true
 risesFrom address (x ∷ xs) = ltb address (x .address) && wellFormed x && risesFrom (x .address) xs
 
--- The table keeps its form: at most 256 records, addresses not zero and strictly rising. If not, that is refusal 9.
+-- At most 256 records.
+abbrev pub countFits : ℕ → Bool
+countFits count = leb count 256
+
+-- The table keeps its form: so many records, addresses not zero and strictly rising. If not, that is refusal 9.
 unfoldable pub tableFits : List Lease → Bool
-tableFits t = leb (length t) 256 && risesFrom 0 t
+tableFits t = countFits (length t) && risesFrom 0 t
 
 -- The records that pass a test, in the table's order.
 unfoldable pub those : (Lease → Bool) → List Lease → List Lease

@@ -6,24 +6,30 @@ ghost use mathlib.Core.Bool.{cond};
 ghost use mathlib.Core.List.{foldl};
 ghost use Rattle.leasetable.specs.Folds.{formStart, formOff, formWants, formAdd, formTurn};
 
-// What is known of the records passed: whether they keep the form, and the last address.
+// The most records that a table has.
+const LONGEST_TABLE: usize = 256;
+
+// What is known of the records passed: whether the table may keep the form, and the last address.
 pub struct Form {
     pub ok: bool,
     pub last: u32,
 }
 
-// Nothing is passed yet.
-pub fn start() -> Form
-    ensures { λ r. ⌜ r ≡ formStart ⌝ }
+// Nothing is passed yet of a table of so many records; too many break the form.
+pub fn start(count: usize) -> Form
+    ensures { λ r. ⌜ r ≡ formStart count ⌝ }
 {
-    Form { ok: true, last: 0 }
+    Form {
+        ok: count <= LONGEST_TABLE,
+        last: 0,
+    }
 }
 
-// Every table is looked at.
+// No record is read of a table that has too many.
 fn is_off(a: Form) -> bool
     ensures { λ r. ⌜ r ≡ formOff a ⌝ }
 {
-    false
+    !a.ok
 }
 
 // A table that was found to break its form is not looked at further.
