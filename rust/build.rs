@@ -1,70 +1,112 @@
-//! Links the archive, and turns the list of sizes and offsets that the C side
-//! is held to into assertions about the structs of this crate.
+//! Links the library, and turns the list of sizes and offsets that the C side is held to into
+//! assertions about the structs of this crate.
 
 use std::env;
 use std::fs;
 use std::path::{Path, PathBuf};
+use std::process::Command;
 
 fn main() {
     let here = PathBuf::from(env::var_os("CARGO_MANIFEST_DIR").expect("set by cargo"));
+    let lists = here.join("include");
     link(&here);
-    assert_layout(&here);
+    write(
+        "layout.rs",
+        &assertions(&read(&lists, "jespurla_layout.def")),
+    );
     println!("cargo:rerun-if-changed=build.rs");
 }
 
-/// The archive is in ../build, or where JESPURLA_ARCHIVE_DIR says.
+// ---- The library
+
+/// Tells cargo where the library is, or says in which places it was looked for.
 fn link(here: &Path) {
-    let folder = match env::var_os("JESPURLA_ARCHIVE_DIR") {
-        Some(given) => PathBuf::from(given),
-        None => here.join("../build"),
-    };
-    let archive = folder.join("libjespurla.a");
-    if !archive.is_file() {
-        panic!("{} is missing: tools/archive builds it", archive.display());
-    }
-    println!("cargo:rerun-if-env-changed=JESPURLA_ARCHIVE_DIR");
-    println!("cargo:rerun-if-changed={}", archive.display());
+    println!("cargo:rerun-if-env-changed=JESPURLA_LIB_DIR");
+    println!("cargo:rerun-if-env-changed=PKG_CONFIG_PATH");
+    let folder = folder(here).unwrap_or_else(|| panic!("{NOT_FOUND}"));
+    println!("cargo:rerun-if-changed={}", archive(&folder).display());
     println!("cargo:rustc-link-search=native={}", folder.display());
     println!("cargo:rustc-link-lib=static=jespurla");
 }
 
-/// Writes an assertion for each line of the list.
-fn assert_layout(here: &Path) {
-    let list = here.join("../include/jespurla_layout.def");
-    println!("cargo:rerun-if-changed={}", list.display());
-    let text = fs::read_to_string(&list).expect("the list of sizes and offsets");
-    let assertions: String = text.lines().filter_map(assertion).collect();
-    let folder = PathBuf::from(env::var_os("OUT_DIR").expect("set by cargo"));
-    fs::write(folder.join("layout.rs"), assertions).expect("room for a file");
+const NOT_FOUND: &str = "libjespurla.a is not found. One of these finds it:
+ - the environment variable JESPURLA_LIB_DIR, the folder that has it;
+ - pkg-config, where the library is installed: `pkg-config --variable=libdir jespurla`;
+ - the folder build/ of the repository, where tools/archive puts it.";
+
+/// The folder of the library: the one that JESPURLA_LIB_DIR names, else that of pkg-config, else the
+/// folder build/ of the repository.
+fn folder(here: &Path) -> Option<PathBuf> {
+    if let Some(given) = env::var_os("JESPURLA_LIB_DIR") {
+        return with_archive(PathBuf::from(given));
+    }
+    let installed = installed().and_then(with_archive);
+    installed.or_else(|| with_archive(here.join("../build")))
 }
 
-/// The assertion that a line stands for; comments, which have no parentheses,
-/// stand for none.
+fn archive(folder: &Path) -> PathBuf {
+    folder.join("libjespurla.a")
+}
+
+/// The folder, where the library is in it.
+fn with_archive(folder: PathBuf) -> Option<PathBuf> {
+    archive(&folder).is_file().then_some(folder)
+}
+
+/// The folder that pkg-config gives, where it knows the library.
+fn installed() -> Option<PathBuf> {
+    let mut asked = Command::new("pkg-config");
+    let told = asked
+        .args(["--variable=libdir", "jespurla"])
+        .output()
+        .ok()?;
+    let text = String::from_utf8(told.stdout).ok()?;
+    told.status.success().then(|| PathBuf::from(text.trim()))
+}
+
+// ---- The lists
+
+/// The text of a list.
+fn read(folder: &Path, name: &str) -> String {
+    let list = folder.join(name);
+    println!("cargo:rerun-if-changed={}", list.display());
+    fs::read_to_string(&list).unwrap_or_else(|why| panic!("{}: {why}", list.display()))
+}
+
+/// Writes a source file that the crate includes.
+fn write(name: &str, text: &str) {
+    let folder = PathBuf::from(env::var_os("OUT_DIR").expect("set by cargo"));
+    fs::write(folder.join(name), text).expect("room for a file");
+}
+
+/// An assertion for each line of the list of sizes and offsets.
+fn assertions(list: &str) -> String {
+    list.lines().filter_map(assertion).collect()
+}
+
+/// The assertion that a line stands for; comments, which have no parentheses, stand for none.
 fn assertion(line: &str) -> Option<String> {
     let (macro_name, rest) = line.split_once('(')?;
     let words: Vec<&str> = rest.trim_end_matches(')').split(", ").collect();
     let facts = match (macro_name, &words[..]) {
         ("STRUCT", [name, size, align]) => {
-            let of = rust_name(name);
+            let of = camel_case(name.trim_start_matches("jespurla_"));
             format!("size_of::<{of}>() == {size} && align_of::<{of}>() == {align}")
         }
+        ("FIELD", ["jespurla_moment", _, offset]) => format!("offset_of!(Moment, 0) == {offset}"),
         ("FIELD", [name, field, offset]) => {
-            let field = if *name == "jespurla_moment" {
-                "0"
-            } else {
-                field
-            };
-            format!("offset_of!({}, {field}) == {offset}", rust_name(name))
+            let of = camel_case(name.trim_start_matches("jespurla_"));
+            format!("offset_of!({of}, {field}) == {offset}")
         }
         _ => panic!("unknown line {line}"),
     };
     Some(format!("const _: () = assert!({facts});\n"))
 }
 
-/// The struct of this crate: `jespurla_lease_answer` is `LeaseAnswer`.
-fn rust_name(name: &str) -> String {
-    let words = name.trim_start_matches("jespurla_").split('_');
+/// The name in Rust's form: lease_answer and LEASE_ANSWER are LeaseAnswer.
+fn camel_case(name: &str) -> String {
+    let words = name.split('_');
     words
-        .map(|word| word[..1].to_uppercase() + &word[1..])
+        .map(|word| word[..1].to_uppercase() + &word[1..].to_lowercase())
         .collect()
 }

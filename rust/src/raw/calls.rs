@@ -1,10 +1,11 @@
-//! The eighteen calls. This module alone has unsafe code.
+//! The calls. This module alone has unsafe code.
 
-use std::mem::size_of;
+use core::mem::size_of;
 
-use crate::{
-    Address, Answered, Dhcid, Job, Lease, LeaseAnswer, Moment, Name, NewJob, Number, RequestAnswer,
-    ServerListAnswer, ServerListState, StepAnswer, Stepped, Zone,
+use super::{
+    Address, Answered, CheckAnswer, Dhcid, FindAnswer, FlagAnswer, Job, Lease, LeaseAnswer, Moment,
+    Name, NameAnswer, NewJob, RequestAnswer, SameAnswer, ServerListAnswer, ServerListState,
+    StepAnswer, Stepped, Zone,
 };
 
 /// The calls as include/jespurla.h declares them.
@@ -12,7 +13,9 @@ mod c {
     use super::*;
 
     extern "C" {
-        pub fn jespurla_flag_decision(flags: u8, honour_s: u8, honour_n: u8) -> u32;
+        pub fn jespurla_version() -> u32;
+
+        pub fn jespurla_flag_decision(flags: u8, honour_s: u8, honour_n: u8) -> FlagAnswer;
 
         pub fn jespurla_name_option_answer(
             value: *const u8,
@@ -23,7 +26,7 @@ mod c {
             honour_n: u8,
             reply: *mut u8,
             reply_length: usize,
-        ) -> u32;
+        ) -> NameAnswer;
 
         pub fn jespurla_server_list(
             list: ServerListState,
@@ -43,7 +46,16 @@ mod c {
             reply_length: usize,
         ) -> LeaseAnswer;
 
-        pub fn jespurla_zone_check(zone: Zone, name: Name, family: u8, policy: u8) -> u32;
+        pub fn jespurla_zone_find(zone: *const Zone, length: usize, name: Name) -> FindAnswer;
+
+        pub fn jespurla_zone_same(
+            left: *const Zone,
+            left_length: usize,
+            right: *const Zone,
+            right_length: usize,
+        ) -> SameAnswer;
+
+        pub fn jespurla_zone_check(zone: Zone, name: Name, family: u8, policy: u8) -> CheckAnswer;
 
         pub fn jespurla_request_a(
             zone: Zone,
@@ -93,6 +105,8 @@ mod c {
             address: Address,
         ) -> NewJob;
 
+        pub fn jespurla_job_has_ended(job: Job) -> u8;
+
         pub fn jespurla_job_step(zone: Zone, job: Job) -> Stepped;
 
         pub fn jespurla_zone_check_lent(
@@ -101,7 +115,7 @@ mod c {
             name: Name,
             family: u8,
             policy: u8,
-        ) -> u32;
+        ) -> CheckAnswer;
 
         pub fn jespurla_request_a_lent(
             zone: *mut Zone,
@@ -144,60 +158,55 @@ mod c {
     }
 }
 
+/// The version of the library that is linked: major * 65,536 + minor * 256 + patch.
+#[inline]
+pub fn version() -> u32 {
+    // SAFETY: a number out; no memory is lent.
+    unsafe { c::jespurla_version() }
+}
+
 /// The flag decision of the DHCPv6 name option.
 ///
-/// `flags` is the client's flags octet; bits above N are ignored. `honour_s`
-/// and `honour_n` say whether S, or N, may be honoured: a bool, or a number of
-/// which 0 is no and any other yes.
+/// `flags` is the client's flags octet; bits above N are not looked at. `honour_s` and `honour_n` say
+/// whether S, or N, may be honoured: 0 is no and any other number yes.
 ///
-/// Result: the flags octet of the answer: 0, 1, 2 or 4.
 /// Refusal: 10 where O is set, or S and N both.
-/// Promise: the number is the entry of the table of 32 answers in
-/// crates/fqdn/specs/Flags.antt.
 #[inline]
-pub fn flag_decision(flags: u8, honour_s: impl Into<u8>, honour_n: impl Into<u8>) -> Number {
-    // SAFETY: numbers in, a number out; no memory is lent.
-    Number(unsafe { c::jespurla_flag_decision(flags, honour_s.into(), honour_n.into()) })
+pub fn flag_decision(flags: u8, honour_s: u8, honour_n: u8) -> FlagAnswer {
+    // SAFETY: numbers in, numbers out; no memory is lent.
+    unsafe { c::jespurla_flag_decision(flags, honour_s, honour_n) }
 }
 
 /// The server's answer to a DHCPv6 name option.
 ///
-/// `value` is the option's value, a flags octet and then a name; `suffix`, a
-/// full name, completes a partial one; `honour_s` and `honour_n` are as in
-/// [`flag_decision`]. The answer goes to `reply`, at least 256 octets.
+/// `value` is the option's value, a flags octet and then a name; `suffix`, a full name, completes a
+/// partial one; `honour_s` and `honour_n` are as in [`flag_decision`]. The answer goes to `reply`, at
+/// least 256 octets, and the octets of `reply` past it keep their values.
 ///
-/// Result: how many octets were written to the front of `reply`: the flags
-/// octet and a full name. A full name is answered octet for octet, a partial
-/// one is followed by the suffix. The octets of `reply` past those keep their
-/// values.
-/// Refusals, the first that applies: 14 reply under 256 octets; 10 value
-/// empty, or its flags refused; 11 suffix not a full name; 12 name empty; 11
-/// name malformed; 13 completed name over 255 octets.
-/// Promise: the number and every octet of `reply`, refused or not, are those
-/// that the rules give.
+/// Refusals, the first that applies: 14 reply under 256 octets; 10 value empty, or its flags refused;
+/// 11 suffix not a full name; 12 name empty; 11 name malformed; 13 completed name over 255 octets.
 #[inline]
 pub fn name_option_answer(
     value: &[u8],
     suffix: &[u8],
-    honour_s: impl Into<u8>,
-    honour_n: impl Into<u8>,
+    honour_s: u8,
+    honour_n: u8,
     reply: &mut [u8],
-) -> Number {
-    // SAFETY: each pointer comes from a slice that outlives the call, with
-    // that slice's length; a slice's pointer is never null, and `reply` is
-    // borrowed apart from the others.
-    Number(unsafe {
+) -> NameAnswer {
+    // SAFETY: each pointer comes from a slice that outlives the call, with that slice's length; a
+    // slice's pointer is never null, and `reply` is borrowed apart from the others.
+    unsafe {
         c::jespurla_name_option_answer(
             value.as_ptr(),
             value.len(),
             suffix.as_ptr(),
             suffix.len(),
-            honour_s.into(),
-            honour_n.into(),
+            honour_s,
+            honour_n,
             reply.as_mut_ptr(),
             reply.len(),
         )
-    })
+    }
 }
 
 /// The DNS server list (RFC 5006) after a router's option area has come in.
@@ -264,20 +273,39 @@ pub fn lease_query(
     }
 }
 
-/// The refusal that a request with these would get, 0 for none. Where there is
-/// no policy, pass 0. For a zone that is kept: [`zone_check_lent`].
+/// What stands at a name: a copy, octet for octet, of the one entry that has it, or zeros where the
+/// name is absent.
 ///
-/// Refusals of this and of the four requests, the first that applies: 17 the
-/// zone breaks its form (a kind not listed, a name that is not full, two equal
-/// names, a count over 4, two equal addresses of a name); 18 a family or
-/// policy not listed; 11 a name that is not full. A refused request returns
-/// the very zone that it was handed, and answer 0. Any other returns the
-/// answer of the rules and a zone of good form with the names, owners and
-/// addresses that the rules give. Where by the rules nothing changes, as where
-/// a request doesn't succeed, every octet of it is as it was.
+/// Refusals, the first that applies: 17 the zone breaks its form; 11 a name that is not full.
 #[inline]
-pub fn zone_check(zone: &Zone, name: &Name, family: u8, policy: u8) -> u32 {
-    // SAFETY: values in, a number out; no memory is lent.
+pub fn zone_find(zone: &Zone, name: &Name) -> FindAnswer {
+    // SAFETY: the pointer comes from a reference that outlives the call, with the size of the zone,
+    // which is octets alone.
+    unsafe { c::jespurla_zone_find(zone, size_of::<Zone>(), *name) }
+}
+
+/// Whether two zones have the same names, with the same owner at each and the same addresses of each
+/// family, at whichever places and in whatever order.
+///
+/// Refusal: 17 where one of the zones breaks its form.
+#[inline]
+pub fn zone_same(left: &Zone, right: &Zone) -> SameAnswer {
+    // SAFETY: as in zone_find, of each pointer.
+    unsafe { c::jespurla_zone_same(left, size_of::<Zone>(), right, size_of::<Zone>()) }
+}
+
+/// The refusal that a request with these would get. Where there is no policy, pass 0. For a zone that
+/// is kept: [`zone_check_lent`].
+///
+/// Refusals of this and of the four requests, the first that applies: 17 the zone breaks its form (a
+/// kind not listed, a name that is not full, two equal names, a count over 4, two equal addresses of a
+/// name); 18 a family or policy not listed; 11 a name that is not full. A refused request returns the
+/// very zone that it was handed, and answer 0. Any other returns the answer of the rules and a zone of
+/// good form with the names, owners and addresses that the rules give. Where by the rules nothing
+/// changes, as where a request doesn't succeed, every octet of it is as it was.
+#[inline]
+pub fn zone_check(zone: &Zone, name: &Name, family: u8, policy: u8) -> CheckAnswer {
+    // SAFETY: values in, a value out; no memory is lent.
     unsafe { c::jespurla_zone_check(*zone, *name, family, policy) }
 }
 
@@ -362,6 +390,14 @@ pub fn new_remove(name: &Name, dhcid: &Dhcid, family: u8, address: &Address) -> 
     unsafe { c::jespurla_new_remove(*name, *dhcid, family, *address) }
 }
 
+/// 1 where a job's stage is one that a step leaves as it is, and 0 at any other. Only the stage is
+/// looked at.
+#[inline]
+pub fn job_has_ended(job: &Job) -> u8 {
+    // SAFETY: a value in, a number out; no memory is lent.
+    unsafe { c::jespurla_job_has_ended(*job) }
+}
+
 /// One step of a job: the one request that its stage asks for, tested and done
 /// at once on the zone, and where the answer leads the job. An add starts with
 /// A; YXDOMAIN leads to B, NXDOMAIN back to A; it ends done, in conflict,
@@ -396,9 +432,8 @@ pub fn job_step(zone: &Zone, job: &Job) -> Stepped {
 /// there, an address to add that is there with no other to delete, a job that
 /// has ended.
 #[inline]
-pub fn zone_check_lent(zone: &Zone, name: &Name, family: u8, policy: u8) -> u32 {
-    // SAFETY: the pointer comes from a reference that outlives the call, with
-    // the size of the zone, which is octets alone.
+pub fn zone_check_lent(zone: &Zone, name: &Name, family: u8, policy: u8) -> CheckAnswer {
+    // SAFETY: as in zone_find.
     unsafe { c::jespurla_zone_check_lent(zone, size_of::<Zone>(), *name, family, policy) }
 }
 

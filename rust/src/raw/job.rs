@@ -1,6 +1,6 @@
 //! Jobs of RFC 4703, which send their requests one step at a time.
 
-use crate::{Address, Dhcid, Name, Refusal, Zone};
+use super::{Address, Dhcid, Name, Zone};
 
 /// An add that sends A next.
 pub const ADD_BEFORE_A: u8 = 1;
@@ -56,14 +56,6 @@ impl Job {
         dhcid: Dhcid { octets: [0; 35] },
         address: Address { octets: [0; 16] },
     };
-
-    /// Whether its stage is one that a step leaves as it is.
-    pub fn has_ended(&self) -> bool {
-        matches!(
-            self.stage,
-            ADD_DONE..=ADD_GAVE_UP | REMOVE_NOT_OURS..=REMOVE_KEPT
-        )
-    }
 }
 
 /// What a new job call answers.
@@ -76,16 +68,9 @@ pub struct NewJob {
     pub job: Job,
 }
 
-impl NewJob {
-    /// The fresh job, or why it is refused.
-    pub fn ok(self) -> Result<Job, Refusal> {
-        Refusal::check(self.refusal).map(|()| self.job)
-    }
-}
-
 /// What a step by value answers.
 #[repr(C)]
-#[derive(Clone, Copy, PartialEq, Eq, Debug)]
+#[derive(Clone, Copy, Debug)]
 pub struct Stepped {
     /// 0 for none.
     pub refusal: u32,
@@ -93,13 +78,6 @@ pub struct Stepped {
     pub zone: Zone,
     /// The job after the step; the very job handed in where it is refused.
     pub job: Job,
-}
-
-impl Stepped {
-    /// The zone and the job after the step, or why it is refused.
-    pub fn ok(&self) -> Result<(&Zone, &Job), Refusal> {
-        Refusal::check(self.refusal).map(|()| (&self.zone, &self.job))
-    }
 }
 
 /// What a step on a lent zone answers.
@@ -110,11 +88,4 @@ pub struct StepAnswer {
     pub refusal: u32,
     /// The job after the step; the very job handed in where it is refused.
     pub job: Job,
-}
-
-impl StepAnswer {
-    /// The job after the step, or why it is refused.
-    pub fn ok(self) -> Result<Job, Refusal> {
-        Refusal::check(self.refusal).map(|()| self.job)
-    }
 }

@@ -1,6 +1,6 @@
 //! The DNS servers that routers announce.
 
-use crate::{Moment, Refusal};
+use super::Moment;
 
 /// A DNS server that a router announced: an IPv6 address and its expiry.
 #[repr(C)]
@@ -33,7 +33,7 @@ impl ServerListState {
     }
 }
 
-/// What [`server_list`](crate::server_list()) answers.
+/// What [`server_list`](super::server_list()) answers.
 #[repr(C)]
 #[derive(Clone, Copy, PartialEq, Eq, Debug)]
 pub struct ServerListAnswer {
@@ -41,11 +41,4 @@ pub struct ServerListAnswer {
     pub refusal: u32,
     /// The new list, or the very list that was handed in.
     pub list: ServerListState,
-}
-
-impl ServerListAnswer {
-    /// The new list, or why it is refused.
-    pub fn ok(self) -> Result<ServerListState, Refusal> {
-        Refusal::check(self.refusal).map(|()| self.list)
-    }
 }

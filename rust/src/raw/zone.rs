@@ -1,8 +1,6 @@
 //! A DNS zone. The structs up to [`Zone`] are made of octets alone, so they
 //! have no gaps.
 
-use crate::Refusal;
-
 /// A domain name as it stands in a message; octets from `length` on are not
 /// looked at.
 #[repr(C)]
@@ -118,7 +116,7 @@ impl Entry {
 
 /// Which place a name has does not matter, and freed places serve again.
 #[repr(C)]
-#[derive(Clone, Copy, PartialEq, Eq, Debug)]
+#[derive(Clone, Copy, Debug)]
 pub struct Zone {
     /// All 64 places, free ones included.
     pub entries: [Entry; 64],
@@ -129,6 +127,34 @@ impl Zone {
     pub const EMPTY: Zone = Zone {
         entries: [Entry::FREE; 64],
     };
+}
+
+/// What [`zone_find`](super::zone_find) answers.
+#[repr(C)]
+#[derive(Clone, Copy, PartialEq, Eq, Debug)]
+pub struct FindAnswer {
+    /// 0 for none.
+    pub refusal: u32,
+    /// A copy of the entry, octet for octet; zeros where the name is absent or the call is refused.
+    pub entry: Entry,
+}
+
+/// What [`zone_same`](super::zone_same) answers.
+#[repr(C)]
+#[derive(Clone, Copy, PartialEq, Eq, Debug)]
+pub struct SameAnswer {
+    /// 0 for none.
+    pub refusal: u32,
+    /// 1 or 0; 0 where it is refused.
+    pub same: u32,
+}
+
+/// What [`zone_check`](super::zone_check) and [`zone_check_lent`](super::zone_check_lent) answer.
+#[repr(C)]
+#[derive(Clone, Copy, PartialEq, Eq, Debug)]
+pub struct CheckAnswer {
+    /// 0 for none.
+    pub refusal: u32,
 }
 
 /// The family of IPv4 addresses.
@@ -159,7 +185,7 @@ pub const NO_ROOM: u32 = 256;
 
 /// What a request by value answers.
 #[repr(C)]
-#[derive(Clone, Copy, PartialEq, Eq, Debug)]
+#[derive(Clone, Copy, Debug)]
 pub struct Answered {
     /// 0 for none.
     pub refusal: u32,
@@ -170,13 +196,6 @@ pub struct Answered {
     pub zone: Zone,
 }
 
-impl Answered {
-    /// The answer and the zone after it, or why the request is refused.
-    pub fn ok(&self) -> Result<(u32, &Zone), Refusal> {
-        Refusal::check(self.refusal).map(|()| (self.answer, &self.zone))
-    }
-}
-
 /// What a request on a lent zone answers.
 #[repr(C)]
 #[derive(Clone, Copy, PartialEq, Eq, Debug)]
@@ -185,11 +204,4 @@ pub struct RequestAnswer {
     pub refusal: u32,
     /// One of the answers above; 0 where it is refused.
     pub answer: u32,
-}
-
-impl RequestAnswer {
-    /// The answer, or why the request is refused.
-    pub fn ok(self) -> Result<u32, Refusal> {
-        Refusal::check(self.refusal).map(|()| self.answer)
-    }
 }

@@ -1,6 +1,6 @@
 //! Leases and the answer to a lease query.
 
-use crate::{Moment, Refusal};
+use super::Moment;
 
 /// The state of a record whose address is free.
 pub const LEASE_FREE: u8 = 0;
@@ -61,7 +61,7 @@ impl Lease {
     }
 }
 
-/// What [`lease_query`](crate::lease_query()) answers.
+/// What [`lease_query`](super::lease_query()) answers.
 #[repr(C)]
 #[derive(Clone, Copy, PartialEq, Eq, Debug)]
 pub struct LeaseAnswer {
@@ -71,11 +71,4 @@ pub struct LeaseAnswer {
     pub kind: u32,
     /// The reply's octets; 0 where it is refused.
     pub length: u32,
-}
-
-impl LeaseAnswer {
-    /// The reply's kind and length, or why the query is refused.
-    pub fn ok(self) -> Result<(u32, usize), Refusal> {
-        Refusal::check(self.refusal).map(|()| (self.kind, self.length as usize))
-    }
 }

@@ -1,0 +1,27 @@
+//! The calls with numbers and structs as C has them, behind safe functions.
+//!
+//! This is what the rest of the crate stands on. It takes every number, listed or not, and hands back
+//! each answer as the library gives it: a struct whose first field is the refusal, 0 for none. Slices
+//! stand for pointers with lengths, and references for lent zones. `include/jespurla.h` has the rule of
+//! each call.
+//!
+//! Structs that are compared with `==` here are compared field by field, whether the library looks at
+//! a field or not.
+
+#[allow(unsafe_code)]
+mod calls;
+mod job;
+mod layout;
+mod lease;
+mod moment;
+mod name_option;
+mod server_list;
+mod zone;
+
+pub use calls::*;
+pub use job::*;
+pub use lease::*;
+pub use moment::Moment;
+pub use name_option::{FlagAnswer, NameAnswer};
+pub use server_list::*;
+pub use zone::*;
