@@ -1,5 +1,5 @@
-//! Links the library, and turns the list of sizes and offsets that the C side is held to into
-//! assertions about the structs of this crate.
+//! Links the library, turns the list of sizes and offsets that the C side is held to into assertions
+//! about the structs of this crate, and the list of refusals into the lines of an enum.
 
 use std::env;
 use std::fs;
@@ -13,6 +13,10 @@ fn main() {
     write(
         "layout.rs",
         &assertions(&read(&lists, "jespurla_layout.def")),
+    );
+    write(
+        "refusals.rs",
+        &refusals(&read(&lists, "jespurla_refusals.def")),
     );
     println!("cargo:rerun-if-changed=build.rs");
 }
@@ -101,6 +105,25 @@ fn assertion(line: &str) -> Option<String> {
         _ => panic!("unknown line {line}"),
     };
     Some(format!("const _: () = assert!({facts});\n"))
+}
+
+/// The list of refusals as src/refusal.rs reads it: `refusals! { 1 Packet "..", }`.
+fn refusals(list: &str) -> String {
+    let lines: String = list.lines().filter_map(refusal).collect();
+    format!("refusals! {{\n{lines}}}\n")
+}
+
+/// The number, the name and the text of a line; comments have no macro's name before a parenthesis.
+fn refusal(line: &str) -> Option<String> {
+    let inside = line.strip_prefix("JESPURLA_REFUSAL(")?.strip_suffix(')')?;
+    let mut words = inside.splitn(3, ", ");
+    let mut word = || {
+        words
+            .next()
+            .unwrap_or_else(|| panic!("unknown line {line}"))
+    };
+    let (number, name, text) = (word(), camel_case(word()), word());
+    Some(format!("    {number} {name} {text},\n"))
 }
 
 /// The name in Rust's form: lease_answer and LEASE_ANSWER are LeaseAnswer.

@@ -1,8 +1,127 @@
 //! The core of an address box: lease queries (RFC 4388), the DHCPv6 name option (RFC 4704), the DNS
 //! servers that routers announce (RFC 5006), and the players' names in a DNS zone that several boxes
-//! share (RFC 4703).
+//! share (RFC 4703). It opens no sockets and keeps no state of its own.
+//!
+//! The calls are those of `libjespurla.a`, each proved to meet its promise. Every call takes every
+//! value of its arguments, returns, and reads and writes only what it was lent.
+//!
+//! ```
+//! use jespurla::{name_option_answer, Dhcid, Job, Name, Policy, Stage, Zone};
+//! use std::net::Ipv4Addr;
+//!
+//! // A client asks for the name pipe7, and that we update its address.
+//! let suffix: Name = "stage.".parse()?;
+//! let mut reply = [0; 256];
+//! let name = name_option_answer(b"\x01\x05pipe7", &suffix, true, false, &mut reply)?.name();
+//!
+//! // An add writes the name into the zone.
+//! let mut zone = Zone::new();
+//! let (client, address) = (Dhcid::new([7; 35]), Ipv4Addr::new(10, 0, 0, 7));
+//! let job = Job::add(&name, &client, address, Policy::KeepOthers)?.run(&mut zone)?;
+//! assert_eq!(job.stage(), Stage::AddDone);
+//! println!("{zone:?}");
+//! # assert_eq!(
+//! #     format!("{zone:?}"),
+//! #     "Zone, 1 of 64 names\n  pipe7.stage. held by 07070707.. 10.0.0.7"
+//! # );
+//! # Ok::<(), Box<dyn std::error::Error>>(())
+//! ```
+//!
+//! # The calls
+//!
+//! | Here | In C | What it does |
+//! |---|---|---|
+//! | [`flag_decision`] | `jespurla_flag_decision` | decides about the flags of a name option |
+//! | [`name_option_answer`] | `jespurla_name_option_answer` | answers a name option |
+//! | [`ServerList::after`], [`advance`](ServerList::advance) | `jespurla_server_list` | applies a router's options to the list of DNS servers |
+//! | [`lease_query`] | `jespurla_lease_query` | replies to a lease query |
+//! | [`Zone::find`] | `jespurla_zone_find` | tells what stands at a name |
+//! | `==` of [`Zone`]s | `jespurla_zone_same` | tells whether two zones mean the same |
+//! | [`Zone::check`] | `jespurla_zone_check_lent` | tells whether a zone keeps its form |
+//! | [`Zone::request_a`] | `jespurla_request_a_lent` | adds a name |
+//! | [`Zone::request_b`] | `jespurla_request_b_lent` | adds an address to a name |
+//! | [`Zone::request_remove_address`] | `jespurla_request_remove_address_lent` | deletes an address of a name |
+//! | [`Zone::request_remove_name`] | `jespurla_request_remove_name_lent` | deletes a name without addresses |
+//! | [`Job::add`], [`Job::remove`] | `jespurla_new_add`, `jespurla_new_remove` | makes a job |
+//! | [`Job::step`] | `jespurla_job_step_lent` | sends the next request of a job |
+//! | [`Job::has_ended`] | `jespurla_job_has_ended` | tells whether a job has ended |
+//! | [`library_version`] | `jespurla_version` | tells the version of the library |
+//!
+//! The module [`raw`] has the same calls with numbers and structs as C has them, and those that take a
+//! zone by value. [`limits`] has the limits as constants.
+//!
+//! # Refusals
+//!
+//! A call that can refuse its input returns a `Result` whose error is a [`Refusal`]. Each call says
+//! which refusals it has, in the order in which they are tried: the first that applies is given. Beside
+//! a refusal every buffer, list and zone is as it was before the call.
+//!
+//! The types keep much of what C can hand in from being said at all: a [`Name`] is always a full name,
+//! a [`Moment`] within its range, an address of one family, a [`Zone`] of good form. Where such a value
+//! is made of numbers or octets, that is refused instead.
+//!
+//! Nothing here panics, unless the library that is linked is of a later version than this crate and
+//! answers a number that this crate does not list.
+//!
+//! # Stack
+//!
+//! The library alone takes under 6 KiB in every call here; 16 KiB are enough with the caller's own
+//! copies of names and jobs. The calls of [`raw`] that take a zone by value take up to 104 KiB
+//! themselves, and 160 KiB with the copies of the zone that goes in and the one that comes out: give
+//! them 256 KiB. [`Zone`] says how to keep a zone off the stack.
+//!
+//! # What it needs
+//!
+//! Rust 1.81 or later. The crate uses `core` alone (`no_std`), allocates nothing and depends on no
+//! other crate. The library reads neither clock nor files, and needs `memcpy`, `memmove` and `memset`.
+//!
+//! The build script looks for `libjespurla.a` in the folder that the environment variable
+//! `JESPURLA_LIB_DIR` names; where it is not set, where `pkg-config` says that the library is
+//! installed; and else in the folder `build` of the repository that this crate is part of.
 
 #![no_std]
 #![deny(unsafe_code, missing_docs)]
 
+mod addresses;
+mod dhcid;
+mod entry;
+mod family;
+mod flags;
+mod job;
+mod lease;
+mod lease_query;
+pub mod limits;
+mod moment;
+mod name;
+mod name_option;
+mod numbers;
+mod presentation;
 pub mod raw;
+mod refusal;
+mod request;
+mod server_list;
+mod stage;
+mod version;
+mod zone;
+mod zone_debug;
+
+pub use addresses::Addresses;
+pub use dhcid::Dhcid;
+pub use entry::{Entry, Standing};
+pub use family::Family;
+pub use flags::{flag_decision, FlagDecision};
+pub use job::Job;
+pub use lease::{Lease, LeaseState};
+pub use lease_query::{lease_query, LeaseReply, ReplyKind};
+pub use moment::{Expiry, Moment, Span};
+pub use name::Name;
+pub use name_option::{name_option_answer, NameReply};
+pub use numbers::UnlistedNumber;
+pub use presentation::ParseNameError;
+pub use raw::{FLAG_N, FLAG_O, FLAG_S};
+pub use refusal::Refusal;
+pub use request::{Answer, Policy};
+pub use server_list::ServerList;
+pub use stage::Stage;
+pub use version::{library_version, Version};
+pub use zone::Zone;

@@ -5,8 +5,9 @@
 //! stand for pointers with lengths, and references for lent zones. `include/jespurla.h` has the rule of
 //! each call.
 //!
-//! Structs that are compared with `==` here are compared field by field, whether the library looks at
-//! a field or not.
+//! A call that takes a zone by value wants 256 KiB of stack; those whose names end in `_lent` copy no
+//! zone. Structs that can be compared with `==` here are compared field by field, whether the library
+//! looks at a field or not. Zones can't: [`zone_same`] says whether two mean the same.
 
 #[allow(unsafe_code)]
 mod calls;
@@ -22,6 +23,6 @@ pub use calls::*;
 pub use job::*;
 pub use lease::*;
 pub use moment::Moment;
-pub use name_option::{FlagAnswer, NameAnswer};
+pub use name_option::*;
 pub use server_list::*;
 pub use zone::*;

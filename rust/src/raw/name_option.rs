@@ -1,4 +1,11 @@
-//! What the calls of the DHCPv6 name option answer.
+//! The flags of the DHCPv6 name option, and what its calls answer.
+
+/// The flag S: the server updates the name's address.
+pub const FLAG_S: u8 = 1;
+/// The flag O: the server has overridden the client's wish for S.
+pub const FLAG_O: u8 = 2;
+/// The flag N: the server updates nothing.
+pub const FLAG_N: u8 = 4;
 
 /// What [`flag_decision`](super::flag_decision) answers.
 #[repr(C)]

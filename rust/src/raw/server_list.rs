@@ -27,6 +27,16 @@ pub struct ServerListState {
 }
 
 impl ServerListState {
+    /// A list without servers, at clock 0.
+    pub const EMPTY: ServerListState = ServerListState {
+        entries: [Server {
+            address: [0; 16],
+            expiry: Moment(0),
+        }; 8],
+        count: 0,
+        clock: Moment(0),
+    };
+
     /// The servers held; all entries where the count claims more.
     pub fn held(&self) -> &[Server] {
         &self.entries[..self.count.min(8)]

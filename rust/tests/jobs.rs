@@ -1,0 +1,120 @@
+//! Jobs: every stage, and steps of several boxes on one zone.
+
+use std::net::Ipv4Addr;
+
+use jespurla::{Addresses, Dhcid, Entry, Job, Name, Policy, Refusal, Stage, Zone};
+
+const X: Dhcid = Dhcid::new([b'X'; 35]);
+const Y: Dhcid = Dhcid::new([b'Y'; 35]);
+const V4: Ipv4Addr = Ipv4Addr::new(10, 0, 0, 7);
+
+fn pipe7() -> Name {
+    "pipe7.stage".parse().expect("a name")
+}
+
+fn add(owner: &Dhcid) -> Job {
+    Job::add(&pipe7(), owner, V4, Policy::KeepOthers).expect("a sound job")
+}
+
+fn remove(owner: &Dhcid) -> Job {
+    Job::remove(&pipe7(), owner, V4).expect("a sound job")
+}
+
+/// A zone in which X holds the name.
+fn held() -> Zone {
+    let mut zone = Zone::new();
+    let job = add(&X).run(&mut zone).expect("a sound zone");
+    assert_eq!(job.stage(), Stage::AddDone);
+    zone
+}
+
+/// The stages of a job as it is stepped, and where it ends.
+fn stages(mut job: Job, zone: &mut Zone) -> Vec<Stage> {
+    let mut seen = vec![job.stage()];
+    while !job.has_ended() {
+        job = job.step(zone).expect("a sound zone");
+        seen.push(job.stage());
+    }
+    let after = job.clone().step(zone).expect("a sound zone");
+    assert_eq!(after, job);
+    seen
+}
+
+#[test]
+fn adds_end_done_in_conflict_or_without_room() {
+    use Stage::{AddBeforeA, AddBeforeB, AddConflict, AddDone, AddNoRoom};
+    assert_eq!(stages(add(&X), &mut Zone::new()), [AddBeforeA, AddDone]);
+    let again = stages(add(&X), &mut held());
+    assert_eq!(again, [AddBeforeA, AddBeforeB, AddDone]);
+    let others = stages(add(&Y), &mut held());
+    assert_eq!(others, [AddBeforeA, AddBeforeB, AddConflict]);
+    let full = (0..64).map(|number| Entry {
+        name: format!("oboe{number}").parse().expect("a name"),
+        owner: None,
+        addresses: Addresses::EMPTY,
+    });
+    let mut full = Zone::from_entries(full).expect("64 names");
+    assert_eq!(stages(add(&X), &mut full), [AddBeforeA, AddNoRoom]);
+}
+
+#[test]
+fn removes_end_gone_kept_or_not_ours() {
+    use Stage::{RemoveBeforeFirst, RemoveBeforeSecond, RemoveGone, RemoveKept, RemoveNotOurs};
+    let gone = stages(remove(&X), &mut held());
+    assert_eq!(gone, [RemoveBeforeFirst, RemoveBeforeSecond, RemoveGone]);
+    let not_ours = stages(remove(&Y), &mut held());
+    assert_eq!(not_ours, [RemoveBeforeFirst, RemoveNotOurs]);
+    let mut two = held();
+    let other = Ipv4Addr::new(10, 0, 0, 8);
+    two.request_b(&pipe7(), &X, other, Policy::KeepOthers)
+        .expect("sound");
+    let kept = stages(remove(&X), &mut two);
+    assert_eq!(kept, [RemoveBeforeFirst, RemoveBeforeSecond, RemoveKept]);
+}
+
+/// X removes its only address; Y adds in between.
+#[test]
+fn the_jobs_of_two_boxes_are_mixed() -> Result<(), Refusal> {
+    let mut zone = held();
+    let (x, y) = (remove(&X).step(&mut zone)?, add(&Y).step(&mut zone)?);
+    let (y, x) = (y.step(&mut zone)?, x.step(&mut zone)?);
+    assert!(x.has_ended() && y.has_ended());
+    assert_eq!(
+        (x.stage(), y.stage()),
+        (Stage::RemoveGone, Stage::AddConflict)
+    );
+    assert_eq!((x.requests_sent(), y.requests_sent()), (None, Some(2)));
+    assert!(zone.is_empty());
+    Ok(())
+}
+
+/// The name is there whenever the job sends A, and gone when it sends B.
+#[test]
+fn an_add_gives_up_after_six_requests() -> Result<(), Refusal> {
+    let (mut empty, mut job) = (Zone::new(), add(&X));
+    for sent in 1..=6 {
+        job = match job.stage() {
+            Stage::AddBeforeA => job.step(&mut held())?,
+            _ => job.step(&mut empty)?,
+        };
+        assert_eq!(job.requests_sent(), Some(sent));
+    }
+    assert_eq!(job.stage(), Stage::AddGaveUp);
+    assert!(empty.is_empty());
+    Ok(())
+}
+
+#[test]
+fn a_job_tells_what_it_was_made_of() {
+    let (add, remove) = (add(&X), remove(&X));
+    assert_eq!(
+        (add.name(), add.owner(), add.address()),
+        (pipe7(), X, V4.into())
+    );
+    assert_eq!(add.policy(), Some(Policy::KeepOthers));
+    assert_eq!((add.requests_sent(), add.has_ended()), (Some(0), false));
+    assert_eq!((remove.policy(), remove.requests_sent()), (None, None));
+    assert_ne!(add, remove);
+    let text = format!("{add:?}");
+    assert!(text.contains("AddBeforeA") && text.contains("pipe7.stage.") && text.len() < 250);
+}

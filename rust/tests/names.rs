@@ -1,0 +1,168 @@
+//! Names in presentation form and as they stand in messages.
+
+use std::collections::HashSet;
+
+use jespurla::{Name, ParseNameError, Refusal};
+
+/// Numbers that look random, the same in every run.
+struct Random(u64);
+
+impl Random {
+    fn below(&mut self, bound: usize) -> usize {
+        self.0 ^= self.0 << 13;
+        self.0 ^= self.0 >> 7;
+        self.0 ^= self.0 << 17;
+        (self.0 >> 11) as usize % bound
+    }
+
+    fn octets(&mut self, length: usize) -> Vec<u8> {
+        (0..length).map(|_| self.below(256) as u8).collect()
+    }
+
+    /// The octets of a full name, of any length up to 255.
+    fn wire(&mut self) -> Vec<u8> {
+        let (most, mut wire) = (2 + self.below(253), Vec::new());
+        while wire.len() + 2 <= most {
+            let label = 1 + self.below(63.min(most - wire.len() - 1));
+            wire.push(label as u8);
+            wire.extend(self.octets(label));
+        }
+        wire.push(0);
+        wire
+    }
+}
+
+/// The octets of a name with labels of these lengths.
+fn labels(lengths: &[usize]) -> Vec<u8> {
+    let label = |&length: &usize| [vec![length as u8], vec![b'a'; length]].concat();
+    let mut wire: Vec<u8> = lengths.iter().flat_map(label).collect();
+    wire.push(0);
+    wire
+}
+
+/// Reads a name, prints it and reads it again.
+fn round_trip(wire: &[u8]) -> Name {
+    let name = Name::from_wire(wire).expect("a full name");
+    let text = name.to_string();
+    assert!(text.bytes().all(|octet| octet.is_ascii_graphic()), "{text}");
+    assert!(text.ends_with('.'), "{text}");
+    let again: Name = text.parse().expect("what was printed");
+    assert_eq!(again.as_wire(), wire, "{text}");
+    assert_eq!(again, name);
+    name
+}
+
+#[test]
+fn random_names_are_printed_and_read_back() {
+    let mut random = Random(0x1234_5678_9abc_def1);
+    let mut lengths = HashSet::new();
+    for _ in 0..20_000 {
+        let wire = random.wire();
+        round_trip(&wire);
+        lengths.insert(wire.len());
+    }
+    assert!(lengths.contains(&255) && lengths.contains(&3));
+}
+
+#[test]
+fn every_octet_is_printed_and_read_back() {
+    for octet in 0..=255 {
+        let name = round_trip(&[1, octet, 2, octet, octet, 0]);
+        let escaped = format!("\\{octet:03}");
+        let written: Name = format!("{escaped}.{escaped}{escaped}")
+            .parse()
+            .expect("digits");
+        assert_eq!(written, name);
+    }
+}
+
+#[test]
+fn the_longest_names_are_printed_and_read_back() {
+    round_trip(&labels(&[1; 127]));
+    round_trip(&labels(&[63, 63, 63, 61]));
+    round_trip(&labels(&[63]));
+    round_trip(&labels(&[1]));
+}
+
+#[test]
+fn a_final_dot_makes_no_difference() {
+    let [with, without] = ["pipe7.stage.", "pipe7.stage"].map(|text| text.parse::<Name>());
+    assert_eq!(with, without);
+    assert_eq!(with.expect("a name").as_wire(), b"\x05pipe7\x05stage\x00");
+}
+
+#[test]
+fn what_means_something_in_a_zone_file_is_escaped() {
+    let text = |wire: &[u8]| Name::from_wire(wire).expect("a full name").to_string();
+    assert_eq!(text(b"\x03a.b\x00"), r"a\.b.");
+    assert_eq!(text(b"\x02a\\\x00"), r"a\\.");
+    assert_eq!(text(b"\x06\"();@$\x00"), r#"\"\(\)\;\@\$."#);
+    assert_eq!(text(b"\x04 \x00\x7f\xff\x00"), r"\032\000\127\255.");
+    assert_eq!(text(b"\x05a-_*!\x00"), "a-_*!.");
+}
+
+#[test]
+fn a_backslash_quotes_a_character() {
+    let wire = |text: &str| text.parse::<Name>().map(|name| name.as_wire().to_vec());
+    assert_eq!(wire(r"a\.b"), Ok(b"\x03a.b\x00".to_vec()));
+    assert_eq!(wire(r"\a\ \\"), Ok(b"\x03a \\\x00".to_vec()));
+    assert_eq!(wire(r"\0651"), Ok(b"\x02A1\x00".to_vec()));
+}
+
+#[test]
+fn texts_that_are_no_names_are_refused() {
+    let why = |text: &str| text.parse::<Name>().expect_err("no name");
+    for text in ["", ".", "..", "a..", ".a", "a..b"] {
+        assert_eq!(why(text), ParseNameError::EmptyLabel, "{text}");
+    }
+    for text in [
+        r"\", r"a\", r"\1", r"\12", r"\12a", r"\256", r"\999.a", "\\\u{e4}", "\\\n",
+    ] {
+        assert_eq!(why(text), ParseNameError::Escape, "{text}");
+    }
+    for text in ["a b", "\u{e4}", "a\n", "\0"] {
+        assert_eq!(why(text), ParseNameError::Character, "{text}");
+    }
+    assert_eq!(why(&"a".repeat(64)), ParseNameError::LabelTooLong);
+    assert_eq!(why(&"a.".repeat(128)), ParseNameError::NameTooLong);
+    let (label, rest) = ("a".repeat(63), "a".repeat(62));
+    assert_eq!(
+        why(&format!("{label}.{label}.{label}.{rest}")),
+        ParseNameError::NameTooLong
+    );
+    assert_eq!(why("a..").to_string(), "a label is empty");
+}
+
+#[test]
+fn octets_that_are_no_full_name_are_refused() {
+    let bad: [&[u8]; 7] = [
+        b"",
+        b"\x00",
+        b"\x05pipe7",
+        b"\x05pipe",
+        b"\x05pipe7\x00\x00",
+        b"\xc0\x00",
+        &[1; 256],
+    ];
+    for wire in bad {
+        assert_eq!(Name::from_wire(wire), Err(Refusal::Name), "{wire:?}");
+    }
+    for lengths in [&[64][..], &[1; 128][..], &[63, 63, 63, 62][..]] {
+        assert_eq!(Name::from_wire(&labels(lengths)), Err(Refusal::Name));
+    }
+}
+
+#[test]
+fn names_are_equal_where_their_octets_are() {
+    let name = |text: &str| text.parse::<Name>().expect("a name");
+    assert_eq!(name("oboe.stage"), name(r"o\098oe.stage."));
+    assert_ne!(name("oboe.stage"), name("Oboe.stage"));
+    assert_ne!(name("oboe.stage"), name(r"oboe\.stage"));
+    let set: HashSet<Name> = ["a", "a.", "A", "b"].map(name).into_iter().collect();
+    assert_eq!(set.len(), 3);
+    assert_eq!(format!("{:?}", name("a.b")), "Name(a.b.)");
+    assert_eq!(
+        name(r"a\.b.c").labels().collect::<Vec<_>>(),
+        [&b"a.b"[..], b"c"]
+    );
+}
