@@ -1,23 +1,18 @@
-//! Links the library, turns the list of sizes and offsets that the C side is held to into assertions
-//! about the structs of this crate, and the list of refusals into the lines of an enum.
+//! Links the library, turns the list of sizes and offsets that the C side is held to into
+//! assertions about the structs of this crate, and the list of refusals into the lines of an enum.
 
 use std::env;
 use std::fs;
 use std::path::{Path, PathBuf};
-use std::process::Command;
+use std::process::{self, Command};
 
 fn main() {
     let here = PathBuf::from(env::var_os("CARGO_MANIFEST_DIR").expect("set by cargo"));
-    let lists = here.join("include");
     link(&here);
-    write(
-        "layout.rs",
-        &assertions(&read(&lists, "jespurla_layout.def")),
-    );
-    write(
-        "refusals.rs",
-        &refusals(&read(&lists, "jespurla_refusals.def")),
-    );
+    let lists = here.join("include");
+    let (layout, listed) = ("jespurla_layout.def", "jespurla_refusals.def");
+    write("layout.rs", &assertions(&read(&lists, layout)));
+    write("refusals.rs", &refusals(&read(&lists, listed)));
     println!("cargo:rerun-if-changed=build.rs");
 }
 
@@ -27,19 +22,26 @@ fn main() {
 fn link(here: &Path) {
     println!("cargo:rerun-if-env-changed=JESPURLA_LIB_DIR");
     println!("cargo:rerun-if-env-changed=PKG_CONFIG_PATH");
-    let folder = folder(here).unwrap_or_else(|| panic!("{NOT_FOUND}"));
+    let folder = folder(here).unwrap_or_else(|| {
+        eprintln!("{NOT_FOUND}");
+        process::exit(1)
+    });
     println!("cargo:rerun-if-changed={}", archive(&folder).display());
     println!("cargo:rustc-link-search=native={}", folder.display());
     println!("cargo:rustc-link-lib=static=jespurla");
 }
 
-const NOT_FOUND: &str = "libjespurla.a is not found. One of these finds it:
- - the environment variable JESPURLA_LIB_DIR, the folder that has it;
+const NOT_FOUND: &str = concat!(
+    "libjespurla.a, version ",
+    env!("CARGO_PKG_VERSION"),
+    ", is not found. One of these finds it:
+ - the environment variable JESPURLA_LIB_DIR, the folder that has it; where it is set, it decides;
  - pkg-config, where the library is installed: `pkg-config --variable=libdir jespurla`;
- - the folder build/ of the repository, where tools/archive puts it.";
+ - the folder build/ of the repository, where tools/archive puts it."
+);
 
-/// The folder of the library: the one that JESPURLA_LIB_DIR names, else that of pkg-config, else the
-/// folder build/ of the repository.
+/// The folder of the library: the one that JESPURLA_LIB_DIR names, else that of pkg-config, else
+/// the folder build/ of the repository.
 fn folder(here: &Path) -> Option<PathBuf> {
     if let Some(given) = env::var_os("JESPURLA_LIB_DIR") {
         return with_archive(PathBuf::from(given));
@@ -57,15 +59,23 @@ fn with_archive(folder: PathBuf) -> Option<PathBuf> {
     archive(&folder).is_file().then_some(folder)
 }
 
-/// The folder that pkg-config gives, where it knows the library.
+/// The folder that pkg-config gives, where it knows the library in a version for this crate: until
+/// 1.0.0 the first two numbers have to be the same.
 fn installed() -> Option<PathBuf> {
+    let (version, wanted) = (pkg_config("--modversion")?, env!("CARGO_PKG_VERSION"));
+    let first_two = |version: &str| version.rsplit_once('.').map(|(two, _)| two.to_owned());
+    if first_two(&version) != first_two(wanted) {
+        return None;
+    }
+    pkg_config("--variable=libdir").map(PathBuf::from)
+}
+
+/// What pkg-config says of the library, where it is there and knows it.
+fn pkg_config(question: &str) -> Option<String> {
     let mut asked = Command::new("pkg-config");
-    let told = asked
-        .args(["--variable=libdir", "jespurla"])
-        .output()
-        .ok()?;
+    let told = asked.args([question, "jespurla"]).output().ok()?;
     let text = String::from_utf8(told.stdout).ok()?;
-    told.status.success().then(|| PathBuf::from(text.trim()))
+    told.status.success().then(|| text.trim().to_owned())
 }
 
 // ---- The lists

@@ -21,8 +21,8 @@ numbers! {
 
 /// The flag decision (RFC 4704).
 ///
-/// `flags` is the client's flags octet; bits above N are not looked at. `honour_s` and `honour_n` say
-/// whether S, or N, may be honoured.
+/// `flags` is the client's flags octet; bits above N are not looked at. `honour_s` and `honour_n`
+/// say whether S, or N, may be honoured.
 ///
 /// Where the client sets N and N may be honoured, the answer is N. Where it sets S and S may be
 /// honoured, it is S; where it sets S and S may not, it is O. In every other case it has no flag.

@@ -7,12 +7,13 @@ use crate::numbers::answered;
 use crate::request::parts;
 use crate::{raw, Dhcid, Family, Name, Policy, Refusal, Stage, Zone};
 
-/// A job: an add gives a name an address, a remove takes an address away, and the name with the last
-/// one. It sends its requests one step at a time, and the steps of several boxes may be mixed on one
-/// zone in any way: some order of the whole jobs, adds without room and those that gave up left out,
-/// ends with the same names, owners and addresses and the same answer to every add.
+/// A job: an add gives a name an address, a remove takes an address away, and the name with the
+/// last one. It sends its requests one step at a time, and the steps of several boxes may be mixed
+/// on one zone in any way: some order of the whole jobs, adds without room and those that gave up
+/// left out, ends with the same names, owners and addresses and the same answer to every add.
 ///
-/// A step takes the job and hands back the next one, so that no job is stepped twice from one stage.
+/// A step takes the job and hands back the next one, so that no job is stepped twice from one
+/// stage.
 ///
 /// ```
 /// use jespurla::{Dhcid, Job, Name, Policy, Stage, Zone};
@@ -51,7 +52,8 @@ impl Job {
         Refusal::check(told.refusal).map(|()| Job(told.job))
     }
 
-    /// A fresh remove that has sent nothing yet. It is refused for nothing that these types can hold.
+    /// A fresh remove that has sent nothing yet. It is refused for nothing that these types can
+    /// hold.
     pub fn remove(name: &Name, owner: &Dhcid, address: impl Into<IpAddr>) -> Result<Job, Refusal> {
         let (family, address) = parts(address);
         let told = raw::new_remove(name.as_raw(), &owner.to_raw(), family, &address);
@@ -59,7 +61,8 @@ impl Job {
     }
 
     /// One step: the one request that its stage asks for, tested and done at once on the zone, and
-    /// where the answer leads the job. A job that has ended changes nothing.
+    /// where the answer leads the job. A job that has ended changes nothing. It is refused for
+    /// nothing that these types can hold.
     pub fn step(self, zone: &mut Zone) -> Result<Job, Refusal> {
         let told = raw::job_step_lent(&mut zone.0, &self.0);
         Refusal::check(told.refusal).map(|()| Job(told.job))

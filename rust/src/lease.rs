@@ -17,8 +17,8 @@ numbers! {
     }
 }
 
-/// A record of the lease table. It is active where it is leased and its expiry is never or later than
-/// now: at the very moment of its expiry it is not.
+/// A record of the lease table. It is active where it is leased and its expiry is never or later
+/// than now: at the very moment of its expiry it is not.
 ///
 /// ```
 /// use jespurla::{Expiry, Lease, Moment, Refusal};
@@ -88,8 +88,8 @@ impl Lease {
         Ok(self)
     }
 
-    /// The record with this relay agent information, at most [`RELAY_MAX`] octets, or none for none;
-    /// [`Refusal::LeaseTable`] where it is longer.
+    /// The record with this relay agent information, at most [`RELAY_MAX`] octets, or none for
+    /// none; [`Refusal::LeaseTable`] where it is longer.
     pub fn with_relay_information(mut self, information: &[u8]) -> Result<Lease, Refusal> {
         (self.0.relay, self.0.relaylen) = padded::<RELAY_MAX>(information)?;
         Ok(self)

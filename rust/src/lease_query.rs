@@ -41,20 +41,21 @@ impl<'r> LeaseReply<'r> {
 /// `clock` is now. `table` is the lease table: at most [`LEASES_MAX`](crate::limits::LEASES_MAX)
 /// records, their addresses not 0.0.0.0 and strictly rising. `server` is this server's address, and
 /// `query` the packet. The reply goes to the front of `reply`, at least
-/// [`LEASE_REPLY_MIN`](crate::limits::LEASE_REPLY_MIN) octets; the octets past it keep their values.
+/// [`LEASE_REPLY_MIN`](crate::limits::LEASE_REPLY_MIN) octets; the octets past it keep their
+/// values.
 ///
 /// A query has one key: an address, a hardware address or a client id. By address the reply is
 /// [`Active`](ReplyKind::Active) where the address has an active record,
 /// [`Unassigned`](ReplyKind::Unassigned) where it has a record that is not active, and
-/// [`Unknown`](ReplyKind::Unknown) where it has none. By client it is Active where the client has an
-/// active lease, about the one with the latest last transaction (of several the lowest address); else
-/// Unknown, and only then.
+/// [`Unknown`](ReplyKind::Unknown) where it has none. By client it is Active where the client has
+/// an active lease, about the one with the latest last transaction (of several the lowest address);
+/// else Unknown, and only then.
 ///
-/// Refusals, in the order in which they are tried: [`Refusal::LeaseTable`] the table breaks its form;
-/// [`Refusal::LeaseReplyRoom`] `reply` too short; then, of the packet, [`Refusal::Packet`],
+/// Refusals, in the order in which they are tried: [`Refusal::LeaseTable`] the table breaks its
+/// form; [`Refusal::LeaseReplyRoom`] `reply` too short; then, of the packet, [`Refusal::Packet`],
 /// [`Refusal::Op`], [`Refusal::Options`], [`Refusal::MessageType`], [`Refusal::Giaddr`],
-/// [`Refusal::Keys`] and [`Refusal::KeyLength`]. A server that gets one of those of the packet drops
-/// it and sends nothing.
+/// [`Refusal::Keys`] and [`Refusal::KeyLength`]. A server that gets one of those of the packet
+/// drops it and sends nothing.
 ///
 /// ```
 /// use jespurla::{lease_query, Expiry, Lease, Moment, Refusal, ReplyKind};

@@ -1,6 +1,6 @@
 //! The core of an address box: lease queries (RFC 4388), the DHCPv6 name option (RFC 4704), the DNS
-//! servers that routers announce (RFC 5006), and the players' names in a DNS zone that several boxes
-//! share (RFC 4703). It opens no sockets and keeps no state of its own.
+//! servers that routers announce (RFC 5006), and the players' names in a DNS zone that several
+//! boxes share (RFC 4703). It opens no sockets and keeps no state of its own.
 //!
 //! The calls are those of `libjespurla.a`, each proved to meet its promise. Every call takes every
 //! value of its arguments, returns, and reads and writes only what it was lent.
@@ -47,18 +47,18 @@
 //! | [`Job::has_ended`] | `jespurla_job_has_ended` | tells whether a job has ended |
 //! | [`library_version`] | `jespurla_version` | tells the version of the library |
 //!
-//! The module [`raw`] has the same calls with numbers and structs as C has them, and those that take a
-//! zone by value. [`limits`] has the limits as constants.
+//! The module [`raw`] has the same calls with numbers and structs as C has them, and those that
+//! take a zone by value. [`limits`] has the limits as constants.
 //!
 //! # Refusals
 //!
 //! A call that can refuse its input returns a `Result` whose error is a [`Refusal`]. Each call says
-//! which refusals it has, in the order in which they are tried: the first that applies is given. Beside
-//! a refusal every buffer, list and zone is as it was before the call.
+//! which refusals it has, in the order in which they are tried: the first that applies is given.
+//! Beside a refusal every buffer, list and zone is as it was before the call.
 //!
-//! The types keep much of what C can hand in from being said at all: a [`Name`] is always a full name,
-//! a [`Moment`] within its range, an address of one family, a [`Zone`] of good form. Where such a value
-//! is made of numbers or octets, that is refused instead.
+//! The types keep much of what C can hand in from being said at all: a [`Name`] is always a full
+//! name, a [`Moment`] within its range, an address of one family, a [`Zone`] of good form. Where
+//! such a value is made of numbers or octets, that is refused instead.
 //!
 //! Nothing here panics, unless the library that is linked is of a later version than this crate and
 //! answers a number that this crate does not list.
@@ -67,13 +67,14 @@
 //!
 //! The library alone takes under 6 KiB in every call here; 16 KiB are enough with the caller's own
 //! copies of names and jobs. The calls of [`raw`] that take a zone by value take up to 104 KiB
-//! themselves, and 160 KiB with the copies of the zone that goes in and the one that comes out: give
-//! them 256 KiB. [`Zone`] says how to keep a zone off the stack.
+//! themselves, and 160 KiB with the copies of the zone that goes in and the one that comes out:
+//! give them 256 KiB. [`Zone`] says how to keep a zone off the stack.
 //!
 //! # What it needs
 //!
 //! Rust 1.81 or later. The crate uses `core` alone (`no_std`), allocates nothing and depends on no
-//! other crate. The library reads neither clock nor files, and needs `memcpy`, `memmove` and `memset`.
+//! other crate. The library reads neither clock nor files, and needs `memcpy`, `memmove` and
+//! `memset`.
 //!
 //! The build script looks for `libjespurla.a` in the folder that the environment variable
 //! `JESPURLA_LIB_DIR` names; where it is not set, where `pkg-config` says that the library is

@@ -115,8 +115,8 @@ impl fmt::Display for Expiry {
     }
 }
 
-/// A span of seconds, as packets carry it: the lifetime of a server, and options 51 and 91 of a lease
-/// reply. It is no moment, and nothing takes one for the other.
+/// A span of seconds, as packets carry it: the lifetime of a server, and options 51 and 91 of a
+/// lease reply. It is no moment, and nothing takes one for the other.
 #[derive(Clone, Copy, PartialEq, Eq, PartialOrd, Ord, Hash, Debug, Default)]
 pub struct Span(pub u32);
 

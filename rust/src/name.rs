@@ -6,8 +6,8 @@ use core::iter;
 
 use crate::{raw, Refusal};
 
-/// A full domain name: labels of 1 to 63 octets, at most 255 octets with the lengths before them and
-/// the closing 0. The root, which has no label, is not among them.
+/// A full domain name: labels of 1 to 63 octets, at most 255 octets with the lengths before them
+/// and the closing 0. The root, which has no label, is not among them.
 ///
 /// It is read from a text in presentation form, with or without the final dot, and printed with it;
 /// [`ParseNameError`](crate::ParseNameError) says what a text must be.

@@ -28,18 +28,18 @@ impl<'r> NameReply<'r> {
 
 /// The server's answer to a name option (RFC 4704).
 ///
-/// `value` is the option's value: a flags octet and then a name, full or partial. `suffix` completes a
-/// partial one. `honour_s` and `honour_n` are as in [`flag_decision`](crate::flag_decision). The answer
-/// goes to the front of `reply`, at least [`NAME_REPLY_MIN`](crate::limits::NAME_REPLY_MIN) octets; the
-/// octets past it keep their values.
+/// `value` is the option's value: a flags octet and then a name, full or partial. `suffix`
+/// completes a partial one. `honour_s` and `honour_n` are as in
+/// [`flag_decision`](crate::flag_decision). The answer goes to the front of `reply`, at least
+/// [`NAME_REPLY_MIN`](crate::limits::NAME_REPLY_MIN) octets; the octets past it keep their values.
 ///
 /// The answer has the flags of the decision. A full name is answered octet for octet, a partial one
 /// with the suffix behind it.
 ///
 /// Refusals, in the order in which they are tried: [`Refusal::NameReplyRoom`] `reply` too short;
 /// [`Refusal::Flags`] `value` empty, or its flags refused; [`Refusal::NameEmpty`] no name;
-/// [`Refusal::Name`] a malformed one; [`Refusal::NameTooLong`] a completed name of over 255 octets. A
-/// server that gets one of the last four sends its reply without a name option, or asks its own
+/// [`Refusal::Name`] a malformed one; [`Refusal::NameTooLong`] a completed name of over 255 octets.
+/// A server that gets one of the last four sends its reply without a name option, or asks its own
 /// configuration for a name where there was none.
 ///
 /// ```

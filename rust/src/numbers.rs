@@ -22,8 +22,8 @@ impl fmt::Display for UnlistedNumber {
 
 impl Error for UnlistedNumber {}
 
-/// What a number that the library answered stands for. Its promise says which numbers it can answer,
-/// so every one is listed, unless the library is of another version than this crate.
+/// What a number that the library answered stands for. Its promise says which numbers it can
+/// answer, so every one is listed, unless the library is of another version than this crate.
 pub(crate) fn answered<T: TryFrom<N, Error = UnlistedNumber>, N>(number: N) -> T {
     T::try_from(number).unwrap_or_else(|unlisted| panic!("the library's answer: {unlisted}"))
 }

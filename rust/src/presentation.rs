@@ -11,8 +11,8 @@ use crate::Name;
 ///
 /// A text is labels with dots between them, and a final dot or none. The printable characters of
 /// ASCII, the space not among them, stand for themselves, but for the dot and the backslash. A
-/// backslash and three decimal digits, 000 to 255, stand for the octet of that number; a backslash and
-/// any other printable character, or the space, for that character.
+/// backslash and three decimal digits, 000 to 255, stand for the octet of that number; a backslash
+/// and any other printable character, or the space, for that character.
 #[non_exhaustive]
 #[derive(Clone, Copy, PartialEq, Eq, Hash, Debug)]
 pub enum ParseNameError {
@@ -163,8 +163,8 @@ impl Building {
     }
 }
 
-/// The name in presentation form with its final dot, so that it is read back as it is. The characters
-/// that mean something in a zone file have a backslash before them.
+/// The name in presentation form with its final dot, so that it is read back as it is. The
+/// characters that mean something in a zone file have a backslash before them.
 impl fmt::Display for Name {
     fn fmt(&self, to: &mut fmt::Formatter) -> fmt::Result {
         self.labels().try_for_each(|label| {

@@ -58,10 +58,10 @@ impl Zone {
         ))
     }
 
-    /// B: at a name that the owner holds, deletes by policy, then adds the address unless it is there.
-    /// [`Answer::NxDomain`] where the name is absent; [`Answer::NxRrset`] where it is static or held by
-    /// another; [`Answer::NoRoom`] where after the deletes the address would be the fifth of its
-    /// family.
+    /// B: at a name that the owner holds, deletes by policy, then adds the address unless it is
+    /// there. [`Answer::NxDomain`] where the name is absent; [`Answer::NxRrset`] where it is static
+    /// or held by another; [`Answer::NoRoom`] where after the deletes the address would be the
+    /// fifth of its family.
     pub fn request_b(
         &mut self,
         name: &Name,
@@ -81,8 +81,8 @@ impl Zone {
         ))
     }
 
-    /// The first remove request: at a name that the owner holds, deletes the address if it is there;
-    /// the name stays. [`Answer::NxRrset`] where the owner does not hold the name.
+    /// The first remove request: at a name that the owner holds, deletes the address if it is
+    /// there; the name stays. [`Answer::NxRrset`] where the owner does not hold the name.
     pub fn request_remove_address(
         &mut self,
         name: &Name,
@@ -101,8 +101,8 @@ impl Zone {
     }
 
     /// The second remove request: deletes a name that the owner holds and that has no address.
-    /// [`Answer::NxRrset`] where the owner does not hold the name, [`Answer::YxRrset`] where it does
-    /// and an address is left.
+    /// [`Answer::NxRrset`] where the owner does not hold the name, [`Answer::YxRrset`] where it
+    /// does and an address is left.
     pub fn request_remove_name(&mut self, name: &Name, owner: &Dhcid) -> Result<Answer, Refusal> {
         let (name, owner) = (name.as_raw(), &owner.to_raw());
         // The call takes an address as the others do; which one makes no difference.

@@ -40,7 +40,8 @@ impl ServerList {
     }
 
     /// The list of these servers at this clock, as one that was stored. Those that have expired by
-    /// then are left out. [`Refusal::ServerList`] where there are over eight, or two of one address.
+    /// then are left out. [`Refusal::ServerList`] where there are over eight, or two of one
+    /// address.
     pub fn from_servers(
         clock: Moment,
         servers: &[(Ipv6Addr, Expiry)],
@@ -56,22 +57,23 @@ impl ServerList {
         ServerList(list).after(clock, &[])
     }
 
-    /// The list after a router's option area has come in. An empty area only drops what has expired.
+    /// The list after a router's option area has come in. An empty area only drops what has
+    /// expired.
     ///
     /// `clock` is now, and `area` has the options of a router advertisement, one behind the other.
     ///
-    /// First every server goes whose expiry is less than the clock. Then the options act in turn. One
-    /// acts where its Type is 25 and its Length is odd and at least 3; of its addresses the first
-    /// three count. With Lifetime 0 an address is taken off the list. With any other an address that
-    /// is there gets the expiry [`clock.after(lifetime)`](Moment::after) and keeps its place. One that
-    /// is not there is put ahead of all servers that this option did not put in, behind those that it
-    /// did; where the list has eight, the one that expires first goes before, of several the one
-    /// furthest back.
+    /// First every server goes whose expiry is less than the clock. Then the options act in turn.
+    /// One acts where its Type is 25 and its Length is odd and at least 3; of its addresses the
+    /// first three count. With Lifetime 0 an address is taken off the list. With any other an
+    /// address that is there gets the expiry [`clock.after(lifetime)`](Moment::after) and keeps its
+    /// place. One that is not there is put ahead of all servers that this option did not put in,
+    /// behind those that it did; where the list has eight, the one that expires first goes before,
+    /// of several the one furthest back.
     ///
-    /// Refusals, in the order in which they are tried: [`Refusal::Clock`] a clock behind the list's;
-    /// [`Refusal::Area`] an area of over [`AREA_MAX`](crate::limits::AREA_MAX) octets, or with an
-    /// option of Length 0 or one past the end. The area is tested whole before anything of it is
-    /// applied. A host that gets the latter drops the advertisement.
+    /// Refusals, in the order in which they are tried: [`Refusal::Clock`] a clock behind the
+    /// list's; [`Refusal::Area`] an area of over [`AREA_MAX`](crate::limits::AREA_MAX) octets, or
+    /// with an option of Length 0 or one past the end. The area is tested whole before anything of
+    /// it is applied. A host that gets the latter drops the advertisement.
     pub fn after(&self, clock: Moment, area: &[u8]) -> Result<ServerList, Refusal> {
         let told = raw::server_list(&self.0, clock.to_raw(), area);
         Refusal::check(told.refusal).map(|()| ServerList(told.list))
@@ -112,8 +114,8 @@ impl Default for ServerList {
     }
 }
 
-/// Lists are equal where they have the same servers in the same order, with the same expiries, and the
-/// same clock.
+/// Lists are equal where they have the same servers in the same order, with the same expiries, and
+/// the same clock.
 impl PartialEq for ServerList {
     fn eq(&self, other: &ServerList) -> bool {
         self.clock() == other.clock() && self.iter().eq(other.iter())

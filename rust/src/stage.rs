@@ -6,12 +6,12 @@ use crate::raw;
 numbers! {
     /// The stages of a [`Job`](crate::Job), and where the answers lead it.
     Stage: u8 {
-        /// An add that sends A next. NoError ends it done, YxDomain leads to before B, NoRoom ends it
-        /// without room.
+        /// An add that sends A next. NoError ends it done, YxDomain leads to before B, NoRoom ends
+        /// it without room.
         AddBeforeA = raw::ADD_BEFORE_A,
-        /// An add that sends B next. NoError ends it done; NxDomain leads back to before A, or, where
-        /// it was the sixth request, ends it as given up; NxRrset ends it in conflict, NoRoom without
-        /// room.
+        /// An add that sends B next. NoError ends it done; NxDomain leads back to before A, or,
+        /// where it was the sixth request, ends it as given up; NxRrset ends it in conflict, NoRoom
+        /// without room.
         AddBeforeB = raw::ADD_BEFORE_B,
         /// An add that has succeeded.
         AddDone = raw::ADD_DONE,
@@ -24,8 +24,8 @@ numbers! {
         /// A remove that sends its first request next. NoError leads to before the second, NxRrset
         /// ends it as not ours.
         RemoveBeforeFirst = raw::REMOVE_BEFORE_FIRST,
-        /// A remove that sends its second request next. NoError ends it with the name gone, anything
-        /// else with the name kept.
+        /// A remove that sends its second request next. NoError ends it with the name gone,
+        /// anything else with the name kept.
         RemoveBeforeSecond = raw::REMOVE_BEFORE_SECOND,
         /// A remove whose owner does not hold the name.
         RemoveNotOurs = raw::REMOVE_NOT_OURS,

@@ -3,9 +3,9 @@
 use crate::limits::ZONE_LENGTH;
 use crate::{raw, Entry, Name, Refusal, Standing};
 
-/// A DNS zone: at most 64 names, each static or held by one owner, with at most four addresses of each
-/// family. Several boxes may share it; the requests of RFC 4703 and the steps of [`Job`](crate::Job)s
-/// change it.
+/// A DNS zone: at most 64 names, each static or held by one owner, with at most four addresses of
+/// each family. Several boxes may share it; the requests of RFC 4703 and the steps of
+/// [`Job`](crate::Job)s change it.
 ///
 /// ```
 /// use jespurla::{Answer, Dhcid, Name, Standing, Zone};
@@ -27,9 +27,11 @@ use crate::{raw, Entry, Name, Refusal, Standing};
 ///
 /// # Where to keep it
 ///
-/// A zone has 23,936 octets. The calls here change it where it lies and copy none, so it can be in a
-/// `static`, behind a lock; in a `Box`; or in memory of your own, by [`Zone::from_bytes_mut`]. As a
-/// local variable it stands on the stack, and so does one that is passed or returned by value.
+/// A zone has 23,936 octets. The calls here change it where it lies and copy none, so it can be in
+/// a `static`, behind a lock, or in memory of your own, by [`Zone::from_bytes_mut`]; octets of 0
+/// are a zone without names. As a local variable it stands on the stack, and so does one that is
+/// passed or returned by value, `Box::new(Zone::new())` among it where the compiler does not see
+/// better.
 ///
 /// ```
 /// use jespurla::Zone;
@@ -37,20 +39,25 @@ use crate::{raw, Entry, Name, Refusal, Standing};
 ///
 /// static ZONE: Mutex<Zone> = Mutex::new(Zone::new());
 /// assert!(ZONE.lock().expect("not poisoned").is_empty());
+///
+/// let mut octets = vec![0; jespurla::limits::ZONE_LENGTH];
+/// let zone: &mut Zone = Zone::from_bytes_mut(&mut octets)?;
+/// assert!(zone.is_empty());
+/// # Ok::<(), jespurla::Refusal>(())
 /// ```
 ///
 /// # Its form
 ///
-/// A value of this type always keeps the form of a zone: nothing makes one that breaks it, and every
-/// request and step keeps it. So the calls on it are not refused for their zone, and, as names,
-/// addresses and policies have types of their own, for nothing else either. They return a `Result` as
-/// all calls do.
+/// A value of this type always keeps the form of a zone: nothing makes one that breaks it, and
+/// every request and step keeps it. So the calls on it are not refused for their zone, and, as
+/// names, addresses and policies have types of their own, for nothing else either. They return a
+/// `Result` as all calls do.
 ///
 /// # Equality
 ///
-/// Zones are equal where they have the same names, with the same owner at each and the same addresses
-/// of each family. Which place a name has and what stands in places that are free does not matter,
-/// although [`Zone::as_bytes`] shows it.
+/// Zones are equal where they have the same names, with the same owner at each and the same
+/// addresses of each family. Which place a name has and what stands in places that are free does
+/// not matter, although [`Zone::as_bytes`] shows it.
 #[repr(transparent)]
 #[derive(Clone)]
 pub struct Zone(pub(crate) raw::Zone);
@@ -94,8 +101,8 @@ impl Zone {
         Ok(zone)
     }
 
-    /// The zone that is stored in these octets, where they are. [`Refusal::Zone`] where they are not
-    /// [`ZONE_LENGTH`] octets or break the form.
+    /// The zone that is stored in these octets, where they are. [`Refusal::Zone`] where they are
+    /// not [`ZONE_LENGTH`] octets or break the form.
     ///
     /// ```
     /// use jespurla::Zone;
@@ -116,7 +123,8 @@ impl Zone {
         zone.check().map(|()| zone)
     }
 
-    /// Its octets, to be stored.
+    /// Its octets, to be stored: those of the struct `jespurla_zone` of C, on every machine the
+    /// same.
     pub fn as_bytes(&self) -> &[u8; ZONE_LENGTH] {
         raw::zone_octets(&self.0)
     }

@@ -20,18 +20,14 @@ fn write_entry(to: &mut fmt::Formatter, entry: &Entry) -> fmt::Result {
         None => to.write_str("static")?,
         Some(owner) => write_short(to, owner)?,
     }
-    entry
-        .addresses
-        .iter()
-        .try_for_each(|address| write!(to, " {address}"))
+    let mut addresses = entry.addresses.iter();
+    addresses.try_for_each(|address| write!(to, " {address}"))
 }
 
-/// The first four octets of a DHCID.
+/// Who holds a name, by the first four octets of the DHCID.
 fn write_short(to: &mut fmt::Formatter, owner: &Dhcid) -> fmt::Result {
     to.write_str("held by ")?;
-    let front = owner.as_bytes().iter().take(4);
-    front
-        .into_iter()
-        .try_for_each(|octet| write!(to, "{octet:02x}"))?;
+    let mut front = owner.as_bytes().iter().take(4);
+    front.try_for_each(|octet| write!(to, "{octet:02x}"))?;
     to.write_str("..")
 }

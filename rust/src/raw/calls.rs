@@ -174,8 +174,8 @@ pub fn flag_decision(flags: u8, honour_s: u8, honour_n: u8) -> FlagAnswer {
     unsafe { c::jespurla_flag_decision(flags, honour_s, honour_n) }
 }
 
-/// [`crate::name_option_answer`] with numbers, and with any octets for a suffix: where they are not a full
-/// name they are refused 11, before the option's name is looked at.
+/// [`crate::name_option_answer`] with numbers, and with any octets for a suffix: where they are not
+/// a full name they are refused 11, before the option's name is looked at.
 #[inline]
 pub fn name_option_answer(
     value: &[u8],
@@ -200,8 +200,9 @@ pub fn name_option_answer(
     }
 }
 
-/// [`ServerList::after`](crate::ServerList::after) on a list that may break its form, which is refused 31
-/// before anything else, and with a clock that may be above [`Moment::LATEST`], which is refused 15.
+/// [`ServerList::after`](crate::ServerList::after) on a list that may break its form, which is
+/// refused 31 before anything else, and with a clock that may be above [`Moment::LATEST`], which is
+/// refused 15.
 #[inline]
 pub fn server_list(list: &ServerListState, clock: Moment, area: &[u8]) -> ServerListAnswer {
     // SAFETY: the pointer comes from a slice that outlives the call, with that
@@ -236,11 +237,11 @@ pub fn lease_query(
     }
 }
 
-/// What stands at a name: a copy, octet for octet, of the one entry that has it, or zeros where the name
-/// is absent.
+/// What stands at a name: a copy, octet for octet, of the one entry that has it, or zeros where the
+/// name is absent.
 ///
-/// Refusals, in the order in which they are tried: 17 the zone breaks its form; 11 a name that is not
-/// full.
+/// Refusals, in the order in which they are tried: 17 the zone breaks its form; 11 a name that is
+/// not full.
 #[inline]
 pub fn zone_find(zone: &Zone, name: &Name) -> FindAnswer {
     // SAFETY: the pointer comes from a reference that outlives the call, with the size of the zone,
@@ -248,8 +249,8 @@ pub fn zone_find(zone: &Zone, name: &Name) -> FindAnswer {
     unsafe { c::jespurla_zone_find(zone, size_of::<Zone>(), *name) }
 }
 
-/// Whether two zones have the same names, with the same owner at each and the same addresses of each
-/// family, at whichever places and in whatever order.
+/// Whether two zones have the same names, with the same owner at each and the same addresses of
+/// each family, at whichever places and in whatever order.
 ///
 /// Refusal: 17 where one of the zones breaks its form.
 #[inline]
@@ -258,18 +259,19 @@ pub fn zone_same(left: &Zone, right: &Zone) -> SameAnswer {
     unsafe { c::jespurla_zone_same(left, size_of::<Zone>(), right, size_of::<Zone>()) }
 }
 
-/// The refusal that a request with these would get, on a zone by value. Where there is no policy, pass 0.
+/// The refusal that a request with these would get, on a zone by value. Where there is no policy,
+/// pass 0.
 ///
-/// Refusals of this and of the four requests, in the order in which they are tried: 17 the zone breaks
-/// its form; 18 a family or policy not listed; 11 a name that is not full.
+/// Refusals of this and of the four requests, in the order in which they are tried: 17 the zone
+/// breaks its form; 18 a family or policy not listed; 11 a name that is not full.
 #[inline]
 pub fn zone_check(zone: &Zone, name: &Name, family: u8, policy: u8) -> CheckAnswer {
     // SAFETY: values in, a value out; no memory is lent.
     unsafe { c::jespurla_zone_check(*zone, *name, family, policy) }
 }
 
-/// [`Zone::request_a`](crate::Zone::request_a) on a zone by value: the zone that it leaves is in the
-/// answer. Refusals as of [`zone_check`].
+/// [`Zone::request_a`](crate::Zone::request_a) on a zone by value: the zone that it leaves is in
+/// the answer. Refusals as of [`zone_check`].
 #[inline]
 pub fn request_a(
     zone: &Zone,
@@ -282,8 +284,8 @@ pub fn request_a(
     unsafe { c::jespurla_request_a(*zone, *name, *dhcid, family, *address) }
 }
 
-/// [`Zone::request_b`](crate::Zone::request_b) on a zone by value: the zone that it leaves is in the
-/// answer. Refusals as of [`zone_check`].
+/// [`Zone::request_b`](crate::Zone::request_b) on a zone by value: the zone that it leaves is in
+/// the answer. Refusals as of [`zone_check`].
 #[inline]
 pub fn request_b(
     zone: &Zone,
@@ -297,8 +299,8 @@ pub fn request_b(
     unsafe { c::jespurla_request_b(*zone, *name, *dhcid, family, *address, policy) }
 }
 
-/// [`Zone::request_remove_address`](crate::Zone::request_remove_address) on a zone by value: the zone that it leaves is in the
-/// answer. Refusals as of [`zone_check`].
+/// [`Zone::request_remove_address`](crate::Zone::request_remove_address) on a zone by value: the
+/// zone that it leaves is in the answer. Refusals as of [`zone_check`].
 #[inline]
 pub fn request_remove_address(
     zone: &Zone,
@@ -311,8 +313,9 @@ pub fn request_remove_address(
     unsafe { c::jespurla_request_remove_address(*zone, *name, *dhcid, family, *address) }
 }
 
-/// [`Zone::request_remove_name`](crate::Zone::request_remove_name) on a zone by value: the zone that it leaves
-/// is in the answer. Of the address only the family is looked at. Refusals as of [`zone_check`].
+/// [`Zone::request_remove_name`](crate::Zone::request_remove_name) on a zone by value: the zone
+/// that it leaves is in the answer. Of the address only the family is looked at. Refusals as of
+/// [`zone_check`].
 #[inline]
 pub fn request_remove_name(
     zone: &Zone,
@@ -327,8 +330,8 @@ pub fn request_remove_name(
 
 /// [`Job::add`](crate::Job::add) with numbers.
 ///
-/// Refusals, in the order in which they are tried: 18 a family or policy not listed; 11 a name that is
-/// not full.
+/// Refusals, in the order in which they are tried: 18 a family or policy not listed; 11 a name that
+/// is not full.
 #[inline]
 pub fn new_add(name: &Name, dhcid: &Dhcid, family: u8, address: &Address, policy: u8) -> NewJob {
     // SAFETY: values in, a value out; no memory is lent.
@@ -353,8 +356,8 @@ pub fn job_has_ended(job: &Job) -> u8 {
 
 /// [`Job::step`](crate::Job::step) on a zone by value: the zone that it leaves is in the answer.
 ///
-/// Refusals, in the order in which they are tried: 17 the zone breaks its form; 18 a stage, family or
-/// policy not listed, or a count that the stage can't have; 11 a name that is not full.
+/// Refusals, in the order in which they are tried: 17 the zone breaks its form; 18 a stage, family
+/// or policy not listed, or a count that the stage can't have; 11 a name that is not full.
 #[inline]
 pub fn job_step(zone: &Zone, job: &Job) -> Stepped {
     // SAFETY: values in, a value out; no memory is lent.
@@ -407,7 +410,8 @@ pub fn request_b_lent(
     }
 }
 
-/// [`Zone::request_remove_address`](crate::Zone::request_remove_address) with numbers. Refusals as of [`zone_check`].
+/// [`Zone::request_remove_address`](crate::Zone::request_remove_address) with numbers. Refusals as
+/// of [`zone_check`].
 #[inline]
 pub fn request_remove_address_lent(
     zone: &mut Zone,
@@ -429,8 +433,8 @@ pub fn request_remove_address_lent(
     }
 }
 
-/// [`Zone::request_remove_name`](crate::Zone::request_remove_name) with numbers. Of the address only the family is
-/// looked at. Refusals as of [`zone_check`].
+/// [`Zone::request_remove_name`](crate::Zone::request_remove_name) with numbers. Of the address
+/// only the family is looked at. Refusals as of [`zone_check`].
 #[inline]
 pub fn request_remove_name_lent(
     zone: &mut Zone,
@@ -452,8 +456,8 @@ pub fn request_remove_name_lent(
     }
 }
 
-/// [`Job::step`](crate::Job::step) with numbers. Refusals as of [`job_step`]. Steps of both kinds may be
-/// mixed on one zone.
+/// [`Job::step`](crate::Job::step) with numbers. Refusals as of [`job_step`]. Steps of both kinds
+/// may be mixed on one zone.
 #[inline]
 pub fn job_step_lent(zone: &mut Zone, job: &Job) -> StepAnswer {
     // SAFETY: as in request_a_lent.
