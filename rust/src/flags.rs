@@ -12,7 +12,7 @@ numbers! {
         NoFlag = NO_FLAG,
         /// S: the server updates the name's address.
         S = FLAG_S,
-        /// O: the server has overridden the client's wish for S.
+        /// O: the server overrides the client's wish for S.
         O = FLAG_O,
         /// N: the server updates nothing.
         N = FLAG_N,

@@ -44,12 +44,12 @@ impl<'r> LeaseReply<'r> {
 /// [`LEASE_REPLY_MIN`](crate::limits::LEASE_REPLY_MIN) octets; the octets past it keep their
 /// values.
 ///
-/// A query has one key: an address, a hardware address or a client id. By address the reply is
-/// [`Active`](ReplyKind::Active) where the address has an active record,
+/// A query has one key: an address, or a client's hardware address or client id. By address the
+/// reply is [`Active`](ReplyKind::Active) where the address has an active record,
 /// [`Unassigned`](ReplyKind::Unassigned) where it has a record that is not active, and
 /// [`Unknown`](ReplyKind::Unknown) where it has none. By client it is Active where the client has
 /// an active lease, about the one with the latest last transaction (of several the lowest address);
-/// else Unknown, and only then.
+/// else Unknown. `include/jespurla.h` says what stands in the reply, option by option.
 ///
 /// Refusals, in the order in which they are tried: [`Refusal::LeaseTable`] the table breaks its
 /// form; [`Refusal::LeaseReplyRoom`] `reply` too short; then, of the packet, [`Refusal::Packet`],

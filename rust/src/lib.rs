@@ -65,16 +65,18 @@
 //!
 //! # Stack
 //!
-//! The library alone takes under 6 KiB in every call here; 16 KiB are enough with the caller's own
-//! copies of names and jobs. The calls of [`raw`] that take a zone by value take up to 104 KiB
-//! themselves, and 160 KiB with the copies of the zone that goes in and the one that comes out:
-//! give them 256 KiB. [`Zone`] says how to keep a zone off the stack.
+//! A call that takes no zone by value takes under 6 KiB itself; 16 KiB are enough for it with the
+//! copies that its caller makes of names and jobs. A call that takes a zone by value, which [`raw`]
+//! alone has, takes up to 104 KiB itself, and 160 KiB with the copies that its caller makes of the
+//! zone that goes in and the one that comes out: give it 256 KiB. The threads of musl have 128 KiB
+//! unless told otherwise, which is not enough for those. [`Zone`] says how to keep a zone off the
+//! stack.
 //!
 //! # What it needs
 //!
-//! Rust 1.81 or later. The crate uses `core` alone (`no_std`), allocates nothing and depends on no
-//! other crate. The library reads neither clock nor files, and needs `memcpy`, `memmove` and
-//! `memset`.
+//! Linux on x86-64, and Rust 1.81 or later. The crate uses `core` alone (`no_std`), allocates
+//! nothing and depends on no other crate. The library reads neither clock nor files, and needs
+//! `memcpy`, `memmove` and `memset`.
 //!
 //! The build script looks for `libjespurla.a` in the folder that the environment variable
 //! `JESPURLA_LIB_DIR` names; where it is not set, where `pkg-config` says that the library is

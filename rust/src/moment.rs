@@ -4,7 +4,9 @@ use core::fmt;
 
 use crate::{raw, Refusal};
 
-/// A moment on the clock, in seconds: 0 to [`Moment::LATEST`].
+/// A moment on the clock, in seconds: 0 to [`Moment::LATEST`]. From when the seconds count is the
+/// caller's choice; the server list refuses a clock that goes back, so it wants one that is never
+/// set back.
 ///
 /// ```
 /// use jespurla::{Moment, Refusal};

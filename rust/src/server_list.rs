@@ -67,8 +67,8 @@ impl ServerList {
     /// first three count. With Lifetime 0 an address is taken off the list. With any other an
     /// address that is there gets the expiry [`clock.after(lifetime)`](Moment::after) and keeps its
     /// place. One that is not there is put ahead of all servers that this option did not put in,
-    /// behind those that it did; where the list has eight, the one that expires first goes before,
-    /// of several the one furthest back.
+    /// behind those that it did; where the list has eight, the one that expires first is dropped to
+    /// make room, of several the one furthest back.
     ///
     /// Refusals, in the order in which they are tried: [`Refusal::Clock`] a clock behind the
     /// list's; [`Refusal::Area`] an area of over [`AREA_MAX`](crate::limits::AREA_MAX) octets, or

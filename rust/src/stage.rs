@@ -5,6 +5,9 @@ use crate::raw;
 
 numbers! {
     /// The stages of a [`Job`](crate::Job), and where the answers lead it.
+    ///
+    /// After a conflict the name is somebody else's: the player gets another, or is told. An add
+    /// without room and one that gave up have changed nothing, and a fresh job may be sent later.
     Stage: u8 {
         /// An add that sends A next. NoError ends it done, YxDomain leads to before B, NoRoom ends
         /// it without room.

@@ -2,7 +2,7 @@
 
 /// The flag S: the server updates the name's address.
 pub const FLAG_S: u8 = 1;
-/// The flag O: the server has overridden the client's wish for S.
+/// The flag O, in an answer alone: the server overrides the client's wish for S.
 pub const FLAG_O: u8 = 2;
 /// The flag N: the server updates nothing.
 pub const FLAG_N: u8 = 4;
