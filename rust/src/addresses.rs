@@ -31,8 +31,11 @@ impl Addresses {
         v6: raw::Entry::FREE.v6,
     };
 
-    /// The set of these addresses; [`Refusal::Zone`] where it has over four of a family, which no
-    /// name in a zone has.
+    /// The set of these addresses.
+    ///
+    /// # Errors
+    ///
+    /// [`Refusal::Zone`] where it has over four of a family, which no name in a zone has.
     pub fn from_slice(addresses: &[IpAddr]) -> Result<Addresses, Refusal> {
         let mut set = Addresses::EMPTY;
         for &address in addresses {

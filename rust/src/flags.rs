@@ -27,7 +27,11 @@ numbers! {
 /// Where the client sets N and N may be honoured, the answer is N. Where it sets S and S may be
 /// honoured, it is S; where it sets S and S may not, it is O. In every other case it has no flag.
 ///
-/// Refusals: [`Refusal::Flags`] where O is set, or S and N both.
+/// # Errors
+///
+/// [`Refusal::Flags`] where O is set, or S and N both.
+///
+/// # Examples
 ///
 /// ```
 /// use jespurla::{flag_decision, FlagDecision, Refusal, FLAG_N, FLAG_S};

@@ -39,7 +39,11 @@ use crate::{raw, Dhcid, Family, Name, Policy, Refusal, Stage, Zone};
 pub struct Job(raw::Job);
 
 impl Job {
-    /// A fresh add that has sent nothing yet. It is refused for nothing that these types can hold.
+    /// A fresh add that has sent nothing yet.
+    ///
+    /// # Errors
+    ///
+    /// None for what these types can hold.
     pub fn add(
         name: &Name,
         owner: &Dhcid,
@@ -52,8 +56,11 @@ impl Job {
         Refusal::check(told.refusal).map(|()| Job(told.job))
     }
 
-    /// A fresh remove that has sent nothing yet. It is refused for nothing that these types can
-    /// hold.
+    /// A fresh remove that has sent nothing yet.
+    ///
+    /// # Errors
+    ///
+    /// None for what these types can hold.
     pub fn remove(name: &Name, owner: &Dhcid, address: impl Into<IpAddr>) -> Result<Job, Refusal> {
         let (family, address) = parts(address);
         let told = raw::new_remove(name.as_raw(), &owner.to_raw(), family, &address);
@@ -61,8 +68,11 @@ impl Job {
     }
 
     /// One step: the one request that its stage asks for, tested and done at once on the zone, and
-    /// where the answer leads the job. A job that has ended changes nothing. It is refused for
-    /// nothing that these types can hold.
+    /// where the answer leads the job. A job that has ended changes nothing.
+    ///
+    /// # Errors
+    ///
+    /// That of [`Zone::check`]. A clone keeps the job for the zone that is restored then.
     pub fn step(self, zone: &mut Zone) -> Result<Job, Refusal> {
         let told = raw::job_step_lent(&mut zone.0, &self.0);
         Refusal::check(told.refusal).map(|()| Job(told.job))
@@ -70,6 +80,10 @@ impl Job {
 
     /// All its steps, one behind the other, until it has ended: an add sends at most
     /// [`REQUESTS_MAX`](crate::limits::REQUESTS_MAX) requests, a remove two.
+    ///
+    /// # Errors
+    ///
+    /// That of [`Zone::check`].
     pub fn run(self, zone: &mut Zone) -> Result<Job, Refusal> {
         let mut job = self;
         while !job.has_ended() {

@@ -50,25 +50,31 @@ impl Lease {
     }
 
     /// The record in this state.
+    #[must_use]
     pub fn with_state(mut self, state: LeaseState) -> Lease {
         self.0.state = state.into();
         self
     }
 
     /// The record with this last transaction.
+    #[must_use]
     pub fn with_last_transaction(mut self, last: Moment) -> Lease {
         self.0.last = last.to_raw();
         self
     }
 
     /// The record with this expiry.
+    #[must_use]
     pub fn with_expiry(mut self, expiry: impl Into<Expiry>) -> Lease {
         self.0.expiry = expiry.into().to_raw();
         self
     }
 
-    /// The record with this type of hardware and this hardware address, 1 to
-    /// [`HARDWARE_MAX`] octets; [`Refusal::LeaseTable`] for any other length.
+    /// The record with this type of hardware and this hardware address.
+    ///
+    /// # Errors
+    ///
+    /// [`Refusal::LeaseTable`] where the address has no octets or over [`HARDWARE_MAX`].
     pub fn with_hardware(mut self, htype: u8, address: &[u8]) -> Result<Lease, Refusal> {
         if address.is_empty() {
             return Err(Refusal::LeaseTable);
@@ -78,8 +84,11 @@ impl Lease {
         Ok(self)
     }
 
-    /// The record with this client id, 2 to [`CLIENT_ID_MAX`] octets, or none for none;
-    /// [`Refusal::LeaseTable`] for any other length.
+    /// The record with this client id; no octets are none.
+    ///
+    /// # Errors
+    ///
+    /// [`Refusal::LeaseTable`] where it has one octet or over [`CLIENT_ID_MAX`].
     pub fn with_client_id(mut self, id: &[u8]) -> Result<Lease, Refusal> {
         if id.len() == 1 {
             return Err(Refusal::LeaseTable);
@@ -88,8 +97,11 @@ impl Lease {
         Ok(self)
     }
 
-    /// The record with this relay agent information, at most [`RELAY_MAX`] octets, or none for
-    /// none; [`Refusal::LeaseTable`] where it is longer.
+    /// The record with this relay agent information; no octets are none.
+    ///
+    /// # Errors
+    ///
+    /// [`Refusal::LeaseTable`] where it has over [`RELAY_MAX`] octets.
     pub fn with_relay_information(mut self, information: &[u8]) -> Result<Lease, Refusal> {
         (self.0.relay, self.0.relaylen) = padded::<RELAY_MAX>(information)?;
         Ok(self)

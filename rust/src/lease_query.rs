@@ -51,11 +51,15 @@ impl<'r> LeaseReply<'r> {
 /// an active lease, about the one with the latest last transaction (of several the lowest address);
 /// else Unknown. `include/jespurla.h` says what stands in the reply, option by option.
 ///
-/// Refusals, in the order in which they are tried: [`Refusal::LeaseTable`] the table breaks its
-/// form; [`Refusal::LeaseReplyRoom`] `reply` too short; then, of the packet, [`Refusal::Packet`],
+/// # Errors
+///
+/// In the order in which they are tried: [`Refusal::LeaseTable`] the table breaks its form;
+/// [`Refusal::LeaseReplyRoom`] `reply` too short; then, of the packet, [`Refusal::Packet`],
 /// [`Refusal::Op`], [`Refusal::Options`], [`Refusal::MessageType`], [`Refusal::Giaddr`],
 /// [`Refusal::Keys`] and [`Refusal::KeyLength`]. A server that gets one of those of the packet
 /// drops it and sends nothing.
+///
+/// # Examples
 ///
 /// ```
 /// use jespurla::{lease_query, Expiry, Lease, Moment, Refusal, ReplyKind};

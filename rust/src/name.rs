@@ -28,6 +28,9 @@ pub struct Name(raw::Name);
 
 impl Name {
     /// The name of these octets, as they stand in a message: each label behind its length, and a 0.
+    ///
+    /// # Errors
+    ///
     /// [`Refusal::Name`] where they are not a full name.
     pub fn from_wire(octets: &[u8]) -> Result<Name, Refusal> {
         let name = raw::Name::new(octets).ok_or(Refusal::Name)?;

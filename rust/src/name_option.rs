@@ -36,11 +36,15 @@ impl<'r> NameReply<'r> {
 /// The answer has the flags of the decision. A full name is answered octet for octet, a partial one
 /// with the suffix behind it.
 ///
-/// Refusals, in the order in which they are tried: [`Refusal::NameReplyRoom`] `reply` too short;
+/// # Errors
+///
+/// In the order in which they are tried: [`Refusal::NameReplyRoom`] `reply` too short;
 /// [`Refusal::Flags`] `value` empty, or its flags refused; [`Refusal::NameEmpty`] no name;
 /// [`Refusal::Name`] a malformed one; [`Refusal::NameTooLong`] a completed name of over 255 octets.
 /// A server that gets one of the last four sends its reply without a name option, or asks its own
 /// configuration for a name where there was none.
+///
+/// # Examples
 ///
 /// ```
 /// use jespurla::{name_option_answer, FlagDecision, Name, Refusal};

@@ -41,6 +41,10 @@ numbers! {
 impl Zone {
     /// A: adds an absent name, held by the owner, with the address. [`Answer::YxDomain`] where the
     /// name is there; [`Answer::NoRoom`] where it would be the 65th.
+    ///
+    /// # Errors
+    ///
+    /// That of [`Zone::check`].
     pub fn request_a(
         &mut self,
         name: &Name,
@@ -62,6 +66,10 @@ impl Zone {
     /// there. [`Answer::NxDomain`] where the name is absent; [`Answer::NxRrset`] where it is static
     /// or held by another; [`Answer::NoRoom`] where after the deletes the address would be the
     /// fifth of its family.
+    ///
+    /// # Errors
+    ///
+    /// That of [`Zone::check`].
     pub fn request_b(
         &mut self,
         name: &Name,
@@ -83,6 +91,10 @@ impl Zone {
 
     /// The first remove request: at a name that the owner holds, deletes the address if it is
     /// there; the name stays. [`Answer::NxRrset`] where the owner does not hold the name.
+    ///
+    /// # Errors
+    ///
+    /// That of [`Zone::check`].
     pub fn request_remove_address(
         &mut self,
         name: &Name,
@@ -103,6 +115,10 @@ impl Zone {
     /// The second remove request: deletes a name that the owner holds and that has no address.
     /// [`Answer::NxRrset`] where the owner does not hold the name, [`Answer::YxRrset`] where it
     /// does and an address is left.
+    ///
+    /// # Errors
+    ///
+    /// That of [`Zone::check`].
     pub fn request_remove_name(&mut self, name: &Name, owner: &Dhcid) -> Result<Answer, Refusal> {
         let (name, owner) = (name.as_raw(), &owner.to_raw());
         // The call takes an address as the others do; which one makes no difference.

@@ -40,8 +40,11 @@ impl ServerList {
     }
 
     /// The list of these servers at this clock, as one that was stored. Those that have expired by
-    /// then are left out. [`Refusal::ServerList`] where there are over eight, or two of one
-    /// address.
+    /// then are left out.
+    ///
+    /// # Errors
+    ///
+    /// [`Refusal::ServerList`] where there are over eight, or two of one address.
     pub fn from_servers(
         clock: Moment,
         servers: &[(Ipv6Addr, Expiry)],
@@ -70,16 +73,22 @@ impl ServerList {
     /// behind those that it did; where the list has eight, the one that expires first is dropped to
     /// make room, of several the one furthest back.
     ///
-    /// Refusals, in the order in which they are tried: [`Refusal::Clock`] a clock behind the
-    /// list's; [`Refusal::Area`] an area of over [`AREA_MAX`](crate::limits::AREA_MAX) octets, or
-    /// with an option of Length 0 or one past the end. The area is tested whole before anything of
-    /// it is applied. A host that gets the latter drops the advertisement.
+    /// # Errors
+    ///
+    /// In the order in which they are tried: [`Refusal::Clock`] a clock behind the list's;
+    /// [`Refusal::Area`] an area of over [`AREA_MAX`](crate::limits::AREA_MAX) octets, or with an
+    /// option of Length 0 or one past the end. The area is tested whole before anything of it is
+    /// applied. A host that gets the latter drops the advertisement.
     pub fn after(&self, clock: Moment, area: &[u8]) -> Result<ServerList, Refusal> {
         let told = raw::server_list(&self.0, clock.to_raw(), area);
         Refusal::check(told.refusal).map(|()| ServerList(told.list))
     }
 
-    /// Makes the list what [`after`](ServerList::after) gives. A refusal leaves it as it was.
+    /// Makes the list what [`after`](ServerList::after) gives.
+    ///
+    /// # Errors
+    ///
+    /// Those of [`after`](ServerList::after), which leave the list as it was.
     pub fn advance(&mut self, clock: Moment, area: &[u8]) -> Result<(), Refusal> {
         *self = self.after(clock, area)?;
         Ok(())

@@ -49,9 +49,8 @@ use crate::{raw, Entry, Name, Refusal, Standing};
 /// # Its form
 ///
 /// A value of this type always keeps the form of a zone: nothing makes one that breaks it, and
-/// every request and step keeps it. So the calls on it are not refused for their zone, and, as
-/// names, addresses and policies have types of their own, for nothing else either. They return a
-/// `Result` as all calls do.
+/// every request and step keeps it. As names, addresses and policies have types of their own too,
+/// the calls on a zone are refused only where its memory has been damaged.
 ///
 /// # Equality
 ///
@@ -76,8 +75,13 @@ impl Zone {
         Zone(raw::Zone::EMPTY)
     }
 
-    /// A zone with these names; the only way to have static ones. [`Refusal::Zone`] where there are
-    /// over 64, or two are equal.
+    /// A zone with these names; the only way to have static ones.
+    ///
+    /// # Errors
+    ///
+    /// [`Refusal::Zone`] where there are over 64, or two are equal.
+    ///
+    /// # Examples
     ///
     /// ```
     /// use jespurla::{Addresses, Entry, Refusal, Zone};
@@ -101,8 +105,13 @@ impl Zone {
         Ok(zone)
     }
 
-    /// The zone that is stored in these octets, where they are. [`Refusal::Zone`] where they are
-    /// not [`ZONE_LENGTH`] octets or break the form.
+    /// The zone that is stored in these octets, where they are.
+    ///
+    /// # Errors
+    ///
+    /// [`Refusal::Zone`] where they are not [`ZONE_LENGTH`] octets or break the form.
+    ///
+    /// # Examples
     ///
     /// ```
     /// use jespurla::Zone;
@@ -116,7 +125,11 @@ impl Zone {
         zone.check().map(|()| zone)
     }
 
-    /// As [`Zone::from_bytes`], for a zone that is changed where its octets are.
+    /// The same for a zone that is changed where its octets are.
+    ///
+    /// # Errors
+    ///
+    /// Those of [`Zone::from_bytes`].
     pub fn from_bytes_mut(octets: &mut [u8]) -> Result<&mut Zone, Refusal> {
         let octets: &mut [u8; ZONE_LENGTH] = octets.try_into().map_err(|_| Refusal::Zone)?;
         let zone = raw::zone_in_mut(octets);
@@ -129,8 +142,12 @@ impl Zone {
         raw::zone_octets(&self.0)
     }
 
-    /// The check that every call on a zone makes first: [`Refusal::Zone`] where the zone breaks its
-    /// form. No value of this type does, unless its memory has been damaged.
+    /// The check that every call on a zone makes first.
+    ///
+    /// # Errors
+    ///
+    /// [`Refusal::Zone`] where the zone breaks its form. No value of this type does, unless its
+    /// memory has been damaged, and it is to be restored then: no call changes it any more.
     pub fn check(&self) -> Result<(), Refusal> {
         let (family, policy) = (raw::FAMILY_4, raw::KEEP_OTHERS);
         let told = raw::zone_check_lent(&self.0, &ANY_NAME, family, policy);
@@ -138,6 +155,10 @@ impl Zone {
     }
 
     /// What stands at a name.
+    ///
+    /// # Errors
+    ///
+    /// That of [`Zone::check`].
     pub fn find(&self, name: &Name) -> Result<Standing, Refusal> {
         let told = raw::zone_find(&self.0, name.as_raw());
         Refusal::check(told.refusal).map(|()| Standing::of(&told.entry))

@@ -64,6 +64,26 @@ fn random_names_are_printed_and_read_back() {
     assert!(lengths.contains(&255) && lengths.contains(&3));
 }
 
+/// Texts of signs that mean something: each is refused, or read as a name that is printed and read
+/// back.
+#[test]
+fn random_texts_are_refused_or_names() {
+    let mut random = Random(0xfedc_ba98_7654_3211);
+    let signs = ["a", "Z", "0", "1", "2", "9", ".", "\\", "-", " ", "\u{e4}"];
+    let mut names = 0;
+    for _ in 0..50_000 {
+        let length = random.below(12);
+        let text: String = (0..length)
+            .map(|_| signs[random.below(signs.len())])
+            .collect();
+        if let Ok(name) = text.parse::<Name>() {
+            round_trip(name.as_wire());
+            names += 1;
+        }
+    }
+    assert!(names > 1_000 && names < 49_000, "{names}");
+}
+
 #[test]
 fn every_octet_is_printed_and_read_back() {
     for octet in 0..=255 {
