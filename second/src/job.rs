@@ -374,6 +374,20 @@ mod tests {
     }
 
     #[test]
+    fn seven_stages_are_ends() {
+        let ended = |stage: &u8| {
+            let job = Job {
+                stage: *stage,
+                ..add(0, X, 1)
+            };
+            job.has_ended()
+        };
+        let ends: Vec<u8> = (0..=255).filter(ended).collect();
+        let adds = [DONE, CONFLICT, NO_ROOM, GAVE_UP];
+        assert_eq!(ends, [&adds[..], &[NOT_OURS, GONE, KEPT]].concat());
+    }
+
+    #[test]
     fn counts_a_stage_can_have() {
         let allowed: [(u8, &[u8]); 6] = [
             (BEFORE_A, &[0, 2, 4]),

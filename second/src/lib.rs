@@ -8,6 +8,7 @@
 //! - [`server_list`]: the DNS server list fed by router options (RDNSS);
 //! - [`lease_query`]: the lease table and the DHCPv4 lease query;
 //! - [`zone`]: the zone and the four update requests;
+//! - [`lookup`]: whether two zones are the same, and what stands at a name;
 //! - [`job`]: add and remove jobs, one request a step.
 //!
 //! Malformed input must be representable, so records carry raw numbers where
@@ -16,6 +17,7 @@
 
 pub mod job;
 pub mod lease_query;
+pub mod lookup;
 pub mod name_option;
 pub mod server_list;
 pub mod zone;

@@ -97,6 +97,12 @@ impl<const W: usize> Set<W> {
         &self.items[..usize::from(self.count).min(SET_MAX)]
     }
 
+    /// Whether both have the same addresses, of sets without one twice.
+    pub(crate) fn is_same(&self, other: &Set<W>) -> bool {
+        let (ours, theirs) = (self.as_slice(), other.as_slice());
+        ours.len() == theirs.len() && ours.iter().all(|item| theirs.contains(item))
+    }
+
     fn is_well_formed(&self) -> bool {
         let items = self.as_slice();
         let distinct = |at: usize| !items[..at].contains(&items[at]);
@@ -157,6 +163,12 @@ impl Entry {
         }
     }
 
+    /// Whether this is the place of the name.
+    #[inline]
+    pub(crate) fn is_at(&self, name: &Name) -> bool {
+        self.kind != FREE && self.name == *name
+    }
+
     fn is_held_by(&self, dhcid: &Dhcid) -> bool {
         self.kind == HELD && self.dhcid == *dhcid
     }
@@ -195,9 +207,20 @@ impl Zone {
     };
 
     fn find(&mut self, name: &Name) -> Option<&mut Entry> {
-        self.entries
-            .iter_mut()
-            .find(|entry| entry.kind != FREE && entry.name == *name)
+        self.entries.iter_mut().find(|entry| entry.is_at(name))
+    }
+}
+
+/// The places of a zone that have a name, in the order of their names.
+pub(crate) struct Sorted<'a> {
+    /// Those past the count stand for nothing.
+    entries: [&'a Entry; PLACES],
+    count: usize,
+}
+
+impl<'a> Sorted<'a> {
+    pub(crate) fn as_slice(&self) -> &[&'a Entry] {
+        &self.entries[..self.count]
     }
 }
 
@@ -231,23 +254,30 @@ pub enum SecondAnswer {
 /// The zone's form: refusal 17 unless every name is full and there once, and
 /// every address set is one.
 pub fn check(zone: &Zone) -> Result<(), u8> {
-    if zone.entries.iter().all(Entry::is_well_formed) && names_differ(zone) {
-        Ok(())
-    } else {
-        Err(17)
-    }
+    sort(zone).map(|_| ())
 }
 
-/// Whether no name is there twice. Sorted names have equal ones side by side.
-fn names_differ(zone: &Zone) -> bool {
-    let mut names: [&[u8]; PLACES] = [&[]; PLACES];
-    let mut count = 0;
-    for entry in zone.entries.iter().filter(|entry| entry.kind != FREE) {
-        names[count] = entry.name.as_slice();
-        count += 1;
+/// The places that have a name, sorted by it; refusal 17 where the zone breaks
+/// its form. Sorted names have equal ones side by side.
+#[inline]
+pub(crate) fn sort(zone: &Zone) -> Result<Sorted<'_>, u8> {
+    if !zone.entries.iter().all(Entry::is_well_formed) {
+        return Err(17);
     }
-    names[..count].sort_unstable();
-    names[..count].windows(2).all(|pair| pair[0] != pair[1])
+    let mut sorted = Sorted {
+        entries: [&zone.entries[0]; PLACES],
+        count: 0,
+    };
+    for entry in zone.entries.iter().filter(|entry| entry.kind != FREE) {
+        sorted.entries[sorted.count] = entry;
+        sorted.count += 1;
+    }
+    let named = &mut sorted.entries[..sorted.count];
+    named.sort_unstable_by(|one, other| one.name.as_slice().cmp(other.name.as_slice()));
+    if named.windows(2).any(|pair| pair[0].name == pair[1].name) {
+        return Err(17);
+    }
+    Ok(sorted)
 }
 
 /// Refusal 18 unless the family is 4 or 6 and the policy is listed.
