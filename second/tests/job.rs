@@ -15,7 +15,7 @@ use common::stack::on_a_stack;
 use common::tally::Tally;
 use common::twin::Twin;
 use common::zones::{self, no_full_name, same_zone};
-use jespurla::StepAnswer;
+use jespurla::raw::{self, StepAnswer};
 use second::job::{self, Job};
 use second::zone::{as_set, check, Entry, Zone, FREE};
 
@@ -128,6 +128,9 @@ const LENT: &[&str] = &[
     "order found, steps of both kinds",
 ];
 
+/// What a job is told of its end.
+const ENDS: &[&str] = &["answer 0", "answer 1"];
+
 /// A job of a list.
 #[derive(Clone, Copy)]
 struct Member {
@@ -143,7 +146,7 @@ struct Member {
 #[derive(Clone)]
 struct Both {
     second: Zone,
-    product: jespurla::Zone,
+    product: raw::Zone,
 }
 
 impl Both {
@@ -156,7 +159,7 @@ impl Both {
 
     /// Whether a zone of the product's is of good form and the second
     /// program's. If so, its places are taken over.
-    fn take(&mut self, left: &jespurla::Zone) -> bool {
+    fn take(&mut self, left: &raw::Zone) -> bool {
         let mut places = left.entries.iter().zip(&self.second.entries);
         if !places.all(|(left, right)| same_place(left, right)) {
             let ours = left.twin();
@@ -171,7 +174,7 @@ impl Both {
 }
 
 /// Whether two places are the same; free ones are not converted.
-fn same_place(left: &jespurla::Entry, right: &Entry) -> bool {
+fn same_place(left: &raw::Entry, right: &Entry) -> bool {
     left.kind == right.kind && (left.kind == FREE || zones::same_place(&left.twin(), right))
 }
 
@@ -199,17 +202,17 @@ impl List {
 }
 
 /// How the product's step is called; the zone becomes the one that it left.
-type Call = fn(Way, &mut jespurla::Zone, &jespurla::Job) -> StepAnswer;
+type Call = fn(Way, &mut raw::Zone, &raw::Job) -> StepAnswer;
 
 /// The step on a thread with as little stack as it must do with.
-fn on_a_small_stack(way: Way, zone: &mut jespurla::Zone, job: &jespurla::Job) -> StepAnswer {
+fn on_a_small_stack(way: Way, zone: &mut raw::Zone, job: &raw::Job) -> StepAnswer {
     on_a_stack(way.stack(), || way.step(zone, job))
 }
 
 /// What the product told of a step, and the zone that it left.
 struct Told {
     answer: StepAnswer,
-    zone: jespurla::Zone,
+    zone: raw::Zone,
 }
 
 impl Told {
@@ -247,7 +250,7 @@ impl Run {
         let got = product::new_job(request);
         let wanted = match &expected {
             Ok(job) => (0, job.twin()),
-            Err(refusal) => (u32::from(*refusal), jespurla::Job::BLANK),
+            Err(refusal) => (u32::from(*refusal), raw::Job::BLANK),
         };
         if (got.refusal, got.job) != wanted {
             println!("second {expected:02x?}, product {got:02x?}");
@@ -328,7 +331,7 @@ impl Run {
     }
 
     /// A step of the product's.
-    fn ask(&self, way: Way, given: &jespurla::Zone, job: &Job) -> Told {
+    fn ask(&self, way: Way, given: &raw::Zone, job: &Job) -> Told {
         let mut zone = *given;
         let answer = (self.call)(way, &mut zone, &job.twin());
         Told { answer, zone }
@@ -595,11 +598,36 @@ fn steps_do_with_a_small_stack() {
     }
 }
 
+/// Whether a job has ended is told by its stage, whatever else it holds.
+#[test]
+fn ends_are_the_same() {
+    let mut random = Random::new(FIXED_SEED);
+    let mut tally = Tally::new(&[ENDS]);
+    while tally.cases < 256 * EACH {
+        let pool = Pool::new(&mut random);
+        for stage in 0..=255 {
+            let mut job = pool.job(&mut random);
+            job.stage = stage;
+            if random.one_in(2) {
+                jobs::scramble(&mut random, &mut job);
+            }
+            let told = raw::job_has_ended(&job.twin());
+            assert_eq!(told, u8::from(job.has_ended()), "{job:02x?}");
+            tally.cases += 1;
+            tally.count(&format!("answer {told}"));
+        }
+    }
+    tally.report("whether jobs have ended", 256 * EACH, EACH);
+}
+
 #[test]
 fn the_products_jobs_send_what_bind_was_sent() {
-    let make = |request: &Request| match product::new_job(request).ok() {
-        Ok(job) => Ok(job.twin()),
-        Err(refusal) => Err(refusal.0 as u8),
+    let make = |request: &Request| {
+        let made = product::new_job(request);
+        match made.refusal {
+            0 => Ok(made.job.twin()),
+            refusal => Err(refusal as u8),
+        }
     };
     for way in WAYS {
         let step = |zone: &mut Zone, job: &mut Job| {

@@ -13,7 +13,7 @@ use common::run::Run;
 use common::stack::on_a_stack;
 use common::tally::Tally;
 use common::twin::Twin;
-use jespurla::{LeaseAnswer, Moment};
+use jespurla::raw::{self, LeaseAnswer, Moment};
 use second::lease_query::{answer, Lease, REPLY_MIN};
 use second::{LATEST_MOMENT, NEVER};
 
@@ -119,8 +119,8 @@ struct Case {
 /// aren't lent.
 struct Tables {
     second: Vec<Lease>,
-    product: Vec<jespurla::Lease>,
-    untouched: Vec<jespurla::Lease>,
+    product: Vec<raw::Lease>,
+    untouched: Vec<raw::Lease>,
 }
 
 impl Tables {
@@ -134,7 +134,7 @@ impl Tables {
         }
     }
 
-    fn lent(&self) -> &[jespurla::Lease] {
+    fn lent(&self) -> &[raw::Lease] {
         &self.product[1..][..self.second.len()]
     }
 }
@@ -150,7 +150,7 @@ impl Run<2> {
         let [query, reply] = self.memory.product();
         let lent = tables.lent();
         let server = u32::from_be_bytes(case.server);
-        let got = jespurla::lease_query(Moment(case.now), lent, server, query, reply);
+        let got = raw::lease_query(Moment(case.now), lent, server, query, reply);
         if got != lease_answer(expected) || !self.memory.is_alike() {
             self.differ(tables, case, expected, got);
         }

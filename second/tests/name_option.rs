@@ -3,9 +3,10 @@
 mod common;
 
 use common::names;
-use common::product::number;
+use common::product::{flag_answer, name_answer};
 use common::random::{from_both_seeds, FIXED_SEED};
 use common::run::Run;
+use jespurla::raw;
 use second::name_option::{answer, flag_decision, shape, Shape};
 
 /// Options compared by one run, at the least.
@@ -51,8 +52,8 @@ impl Run<3> {
         let expected = answer(value, suffix, s != 0, n != 0, reply);
         let flags = if expected.is_ok() { reply[0] } else { 0 };
         let [value, suffix, reply] = self.memory.product();
-        let got = jespurla::name_option_answer(value, suffix, s, n, reply);
-        let same = got == number(expected.map(|octets| octets as u64));
+        let got = raw::name_option_answer(value, suffix, s, n, reply);
+        let same = got == name_answer(expected);
         if !same || !self.memory.is_alike() {
             println!("second {expected:?}, product {got:x?}, {case:02x?}");
             panic!("the programs differ, seed {}", self.random.seed);
@@ -284,8 +285,8 @@ fn every_flag_decision_is_the_same() {
     let honours = [0, 1, 2, 127, 128, 255];
     for flags in 0..=255 {
         for (s, n) in honours.iter().flat_map(|&s| honours.map(|n| (s, n))) {
-            let expected = number(flag_decision(flags, s != 0, n != 0));
-            let got = jespurla::flag_decision(flags, s, n);
+            let expected = flag_answer(flag_decision(flags, s != 0, n != 0));
+            let got = raw::flag_decision(flags, s, n);
             assert_eq!(got, expected, "flags {flags}, honours {s} {n}");
         }
     }

@@ -8,7 +8,7 @@ use common::random::from_both_seeds;
 use common::run::Run;
 use common::tally::Tally;
 use common::twin::Twin;
-use jespurla::Moment;
+use jespurla::raw::{self, Moment};
 use second::server_list::{update, ServerList, AREA_MAX, PLACES};
 use second::{LATEST_MOMENT, NEVER};
 
@@ -248,7 +248,7 @@ impl Run<1> {
             .lay_out(&mut self.random, [case.area.len()], &[&case.area]);
         let expected = update(&case.list, case.now, &case.area);
         let [lent] = self.memory.product();
-        let got = jespurla::server_list(&case.list.twin(), Moment(case.now), lent);
+        let got = raw::server_list(&case.list.twin(), Moment(case.now), lent);
         // A refusal hands back the very list, unused places included.
         let list = *expected.as_ref().unwrap_or(&case.list);
         let refusal = expected.err().map_or(0, u32::from);

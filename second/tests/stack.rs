@@ -7,11 +7,13 @@ use std::fmt::Debug;
 
 use common::jobs::{counts, STAGES};
 use common::lent::is_same;
-use common::product::{Way, WAYS};
+use common::product::{find_answer, same_answer, Way, WAYS};
 use common::requests::{Kind, Request};
 use common::stack::on_a_stack;
 use common::twin::Twin;
+use jespurla::raw;
 use second::job::Job;
+use second::lookup::{find, same};
 use second::zone::{Address, Dhcid, Entry, Name, Set, Zone, HELD, PLACES};
 
 const OWNER: Dhcid = [7; 35];
@@ -57,7 +59,7 @@ fn zones() -> [(Zone, u32); 4] {
 /// the same and leave the same octets.
 fn run<T: PartialEq + Debug + Send>(
     zone: &Zone,
-    call: impl Fn(Way, &mut jespurla::Zone) -> T + Sync,
+    call: impl Fn(Way, &mut raw::Zone) -> T + Sync,
 ) -> T {
     let [by_value, lent] = WAYS.map(|way| {
         let mut zone = zone.twin();
@@ -107,6 +109,28 @@ fn requests_do_with_their_stack() {
             let checked = run(&zone, |way, zone| way.check(zone, request));
             let told = run(&zone, |way, zone| way.send(zone, request));
             assert_eq!((checked, told.refusal), (refusal, refusal));
+        }
+    }
+}
+
+/// The names, last first, each found where it stands; the zones, each with
+/// each, turned round.
+#[test]
+fn lookups_do_with_their_stack() {
+    let stack = Way::Lent.stack();
+    for (zone, refusal) in zones() {
+        let left = zone.twin();
+        for number in (0..PLACES).rev() {
+            let name = deep(number);
+            let told = on_a_stack(stack, || raw::zone_find(&left, &name.twin()));
+            assert_eq!(told, find_answer(find(&zone, &name)));
+            assert_eq!(told.refusal, refusal);
+        }
+        for (mut other, _) in zones() {
+            other.entries.reverse();
+            let right = other.twin();
+            let told = on_a_stack(stack, || raw::zone_same(&left, &right));
+            assert_eq!(told, same_answer(same(&zone, &other)));
         }
     }
 }

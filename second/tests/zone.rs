@@ -12,7 +12,7 @@ use common::requests::{self, Kind, Reply, Request};
 use common::tally::Tally;
 use common::twin::Twin;
 use common::zones::{self, no_full_name, same_zone, Stock};
-use jespurla::RequestAnswer;
+use jespurla::raw::{self, RequestAnswer};
 use second::zone::{as_set, check, Entry, Zone, FREE, HELD, PLACES, STATIC};
 
 /// Requests compared by one run, at the least.
@@ -87,11 +87,11 @@ struct Case {
 struct Told {
     answer: RequestAnswer,
     checked: u32,
-    zone: jespurla::Zone,
+    zone: raw::Zone,
 }
 
 impl Told {
-    fn new(way: Way, given: &jespurla::Zone, request: &Request) -> Told {
+    fn new(way: Way, given: &raw::Zone, request: &Request) -> Told {
         let mut zone = *given;
         let checked = way.check(&zone, request);
         assert!(is_same(&zone, given), "a check writes nothing");
@@ -105,7 +105,7 @@ impl Told {
 
     /// Whether it is what the second program said. A refused zone comes back
     /// octet for octet, another one is the same and of good form.
-    fn agrees(&self, given: &jespurla::Zone, request: &Request, said: &Said) -> bool {
+    fn agrees(&self, given: &raw::Zone, request: &Request, said: &Said) -> bool {
         let (refusal, answer) = (self.answer.refusal, self.answer.answer);
         let same = match said.reply {
             Err(number) => {

@@ -3,6 +3,7 @@
 
 use std::hint::black_box;
 
+use jespurla::raw;
 use second::job::{self, Job, DONE, GONE};
 use second::zone::{as_set, Entry, Name, Set, Zone};
 
@@ -35,11 +36,11 @@ fn request(kind: Kind, number: usize) -> Request {
 }
 
 /// The product's whole job.
-fn ours(start: &jespurla::Zone, request: &Request) -> jespurla::Stepped {
+fn ours(start: &raw::Zone, request: &Request) -> raw::Stepped {
     let job = product::new_job(request).job;
-    let mut last = jespurla::job_step(start, &job);
+    let mut last = raw::job_step(start, &job);
     while last.job.stage != DONE && last.job.stage != GONE {
-        last = jespurla::job_step(&last.zone, &last.job);
+        last = raw::job_step(&last.zone, &last.job);
     }
     last
 }
@@ -95,15 +96,15 @@ fn new_jobs(rows: &mut Table) {
     let name = short(0);
     let given = name.twin();
     let (dhcid, address) = (
-        jespurla::Dhcid { octets: OWNER },
-        jespurla::Address { octets: ADDRESS },
+        raw::Dhcid { octets: OWNER },
+        raw::Address { octets: ADDRESS },
     );
-    let ours = || jespurla::new_add(black_box(&given), &dhcid, 6, &address, 0);
+    let ours = || raw::new_add(black_box(&given), &dhcid, 6, &address, 0);
     let by_value = || second_add(*black_box(&name), OWNER, 6, ADDRESS, 0);
     let lent = || job::new_add(black_box(&name), &OWNER, 6, &ADDRESS, 0);
     assert_eq!(ours().job, by_value().expect("a sound job").twin());
     rows.compare_lent("new add", ours, by_value, lent);
-    let ours = || jespurla::new_remove(black_box(&given), &dhcid, 6, &address);
+    let ours = || raw::new_remove(black_box(&given), &dhcid, 6, &address);
     let by_value = || second_remove(*black_box(&name), OWNER, 6, ADDRESS);
     let lent = || job::new_remove(black_box(&name), &OWNER, 6, &ADDRESS);
     assert_eq!(ours().job, by_value().expect("a sound job").twin());

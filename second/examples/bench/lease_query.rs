@@ -2,7 +2,7 @@
 
 use std::hint::black_box;
 
-use jespurla::Moment;
+use jespurla::raw::{self, Moment};
 use second::lease_query::{answer, Lease, REPLY_MIN, TABLE_MAX};
 use second::NEVER;
 
@@ -97,7 +97,7 @@ fn case(rows: &mut Table, title: &str, table: &[Lease], query: &[u8]) {
     let server = u32::from_be_bytes(SERVER);
     let mut product = || {
         let (table, query) = (black_box(&lent), black_box(query));
-        jespurla::lease_query(Moment(NOW), table, server, query, black_box(&mut ours))
+        raw::lease_query(Moment(NOW), table, server, query, black_box(&mut ours))
     };
     let mut second = || {
         let (table, query) = (black_box(table), black_box(query));

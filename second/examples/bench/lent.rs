@@ -3,7 +3,8 @@
 
 use std::hint::black_box;
 
-use jespurla::RequestAnswer;
+use jespurla::raw::{self, RequestAnswer};
+use second::job::{DONE, GONE};
 use second::zone::{Address, Name, Zone};
 
 use crate::common::product;
@@ -20,9 +21,9 @@ const OTHER: Address = [8; 16];
 /// A request in the product's types.
 struct Ours {
     kind: Kind,
-    name: jespurla::Name,
-    dhcid: jespurla::Dhcid,
-    address: jespurla::Address,
+    name: raw::Name,
+    dhcid: raw::Dhcid,
+    address: raw::Address,
     policy: u8,
 }
 
@@ -31,38 +32,36 @@ impl Ours {
         Ours {
             kind: request.kind,
             name: request.name.twin(),
-            dhcid: jespurla::Dhcid {
+            dhcid: raw::Dhcid {
                 octets: request.dhcid,
             },
-            address: jespurla::Address {
+            address: raw::Address {
                 octets: request.address,
             },
             policy: request.policy,
         }
     }
 
-    fn send(&self, zone: &mut jespurla::Zone) -> RequestAnswer {
+    fn send(&self, zone: &mut raw::Zone) -> RequestAnswer {
         let (name, dhcid, address) = (&self.name, &self.dhcid, &self.address);
         match self.kind {
-            Kind::A => jespurla::request_a_lent(zone, name, dhcid, 6, address),
-            Kind::B => jespurla::request_b_lent(zone, name, dhcid, 6, address, self.policy),
-            Kind::RemoveFirst => {
-                jespurla::request_remove_address_lent(zone, name, dhcid, 6, address)
-            }
-            Kind::RemoveSecond => jespurla::request_remove_name_lent(zone, name, dhcid, 6, address),
+            Kind::A => raw::request_a_lent(zone, name, dhcid, 6, address),
+            Kind::B => raw::request_b_lent(zone, name, dhcid, 6, address, self.policy),
+            Kind::RemoveFirst => raw::request_remove_address_lent(zone, name, dhcid, 6, address),
+            Kind::RemoveSecond => raw::request_remove_name_lent(zone, name, dhcid, 6, address),
         }
     }
 
     /// The whole job: an add where the request is A.
-    fn run(&self, zone: &mut jespurla::Zone) -> jespurla::Job {
+    fn run(&self, zone: &mut raw::Zone) -> raw::Job {
         let (name, dhcid, address) = (&self.name, &self.dhcid, &self.address);
         let made = match self.kind {
-            Kind::A => jespurla::new_add(name, dhcid, 6, address, self.policy),
-            _ => jespurla::new_remove(name, dhcid, 6, address),
+            Kind::A => raw::new_add(name, dhcid, 6, address, self.policy),
+            _ => raw::new_remove(name, dhcid, 6, address),
         };
         let mut job = made.job;
-        while !job.has_ended() {
-            job = jespurla::job_step_lent(zone, &job).job;
+        while job.stage != DONE && job.stage != GONE {
+            job = raw::job_step_lent(zone, &job).job;
         }
         job
     }
@@ -82,7 +81,7 @@ fn request(kind: Kind, name: Name, address: Address, policy: u8) -> Request {
 
 fn form(rows: &mut Table, title: &str, steady: &Steady) {
     let (name, given) = (steady.name, steady.name.twin());
-    let ours = |zone: &mut jespurla::Zone| jespurla::zone_check_lent(zone, black_box(&given), 6, 1);
+    let ours = |zone: &mut raw::Zone| raw::zone_check_lent(zone, black_box(&given), 6, 1).refusal;
     let second = |zone: &mut Zone| second_lent::check(zone, *black_box(&name), 6, 1);
     let lent = |zone: &mut Zone| second_lent::check_on_references(zone, black_box(&name), 6, 1);
     let mut zone = steady.zone.clone();
@@ -98,7 +97,7 @@ fn form(rows: &mut Table, title: &str, steady: &Steady) {
 
 fn send(rows: &mut Table, title: &str, steady: &Steady, request: &Request) {
     let given = Ours::new(request);
-    let ours = |zone: &mut jespurla::Zone| black_box(&given).send(zone);
+    let ours = |zone: &mut raw::Zone| black_box(&given).send(zone);
     let second = |zone: &mut Zone| second_lent::send(zone, black_box(request));
     let lent = |zone: &mut Zone| second_lent::send_on_references(zone, black_box(request));
     let told = ours(&mut steady.zone.twin());
@@ -110,7 +109,7 @@ fn send(rows: &mut Table, title: &str, steady: &Steady, request: &Request) {
 
 fn run_whole(rows: &mut Table, title: &str, steady: &Steady, request: &Request) {
     let given = Ours::new(request);
-    let ours = |zone: &mut jespurla::Zone| black_box(&given).run(zone);
+    let ours = |zone: &mut raw::Zone| black_box(&given).run(zone);
     let second = |zone: &mut Zone| second_lent::run(zone, black_box(request));
     let lent = |zone: &mut Zone| second_lent::run_on_references(zone, black_box(request));
     let job = ours(&mut steady.zone.twin());

@@ -2,9 +2,10 @@
 
 use std::hint::black_box;
 
+use jespurla::raw::{self, FlagAnswer};
 use second::name_option::{answer, flag_decision};
 
-use crate::common::product::number;
+use crate::common::product::{flag_answer, name_answer};
 use crate::timer::Table;
 
 /// A name of labels of `label` octets each, `octets` in all, full if `full`.
@@ -27,34 +28,32 @@ fn option(rows: &mut Table, title: &str, name: &[u8], suffix: &[u8]) {
     let (mut ours, mut theirs) = ([7; 256], [7; 256]);
     let mut product = || {
         let (value, suffix) = (black_box(&value), black_box(suffix));
-        jespurla::name_option_answer(value, suffix, 1, 0, black_box(&mut ours))
+        raw::name_option_answer(value, suffix, 1, 0, black_box(&mut ours))
     };
     let mut second = || {
         let (value, suffix) = (black_box(&value), black_box(suffix));
         answer(value, suffix, true, false, black_box(&mut theirs))
     };
-    let expected = second().expect("a sound option");
-    assert_eq!(product(), number(Ok(expected as u64)));
+    let expected = second();
+    assert!(expected.is_ok(), "a sound option");
+    assert_eq!(product(), name_answer(expected));
     let title = format!("name option, {title}");
     rows.compare(&title, product, second);
     assert_eq!(ours, theirs);
 }
 
 /// The second program's flag decision behind the product's interface: a call,
-/// and a refusal and a result in one number.
+/// and a refusal beside a result.
 #[inline(never)]
-extern "C" fn second_flags(flags: u8, honour_s: u8, honour_n: u8) -> u32 {
-    match flag_decision(flags, honour_s != 0, honour_n != 0) {
-        Ok(sent) => u32::from(sent),
-        Err(refusal) => u32::from(refusal) << 16,
-    }
+extern "C" fn second_flags(flags: u8, honour_s: u8, honour_n: u8) -> FlagAnswer {
+    flag_answer(flag_decision(flags, honour_s != 0, honour_n != 0))
 }
 
 pub fn run(rows: &mut Table) {
-    assert_eq!(jespurla::flag_decision(249, 1, 0).ok(), Ok(1));
+    assert_eq!(raw::flag_decision(249, 1, 0), flag_answer(Ok(1)));
     rows.compare_lent(
         "flag decision",
-        || jespurla::flag_decision(black_box(249), 1, 0),
+        || raw::flag_decision(black_box(249), 1, 0),
         || second_flags(black_box(249), 1, 0),
         || flag_decision(black_box(249), true, false),
     );

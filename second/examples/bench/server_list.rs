@@ -2,7 +2,7 @@
 
 use std::hint::black_box;
 
-use jespurla::Moment;
+use jespurla::raw::{self, Moment};
 use second::server_list::{update, Entry, ServerList};
 use second::NEVER;
 
@@ -56,7 +56,7 @@ extern "C" fn by_value(list: ServerList, now: u64, area: &[u8]) -> (u8, ServerLi
 fn case(rows: &mut Table, title: &str, count: usize, area: Vec<u8>) {
     let list = list(count);
     let given = list.twin();
-    let product = || jespurla::server_list(black_box(&given), Moment(NOW), black_box(&area));
+    let product = || raw::server_list(black_box(&given), Moment(NOW), black_box(&area));
     let second = || by_value(*black_box(&list), NOW, black_box(&area));
     let lent = || update(black_box(&list), NOW, black_box(&area));
     let expected = lent().expect("a sound list and area");

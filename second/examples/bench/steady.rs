@@ -3,6 +3,7 @@
 
 use std::hint::black_box;
 
+use jespurla::raw;
 use second::zone::{as_set, Entry, Name, Set, Zone, FREE, HELD};
 
 use crate::common::twin::Twin;
@@ -46,7 +47,7 @@ impl PutBack for Entry {
     }
 }
 
-impl PutBack for jespurla::Entry {
+impl PutBack for raw::Entry {
     fn put_back(&mut self, place: Place) {
         self.kind = place.kind;
         self.v6.count = place.count;
@@ -91,7 +92,7 @@ impl Steady {
         &self,
         rows: &mut Table,
         title: &str,
-        ours: impl Fn(&mut jespurla::Zone) -> A,
+        ours: impl Fn(&mut raw::Zone) -> A,
         second: impl Fn(&mut Zone) -> B,
         lent: impl Fn(&mut Zone) -> C,
     ) {

@@ -350,6 +350,15 @@ pub fn break_number(random: &mut Random, job: &mut Job) -> &'static str {
     }
 }
 
+/// Puts anything in all of a job but its stage.
+pub fn scramble(random: &mut Random, job: &mut Job) {
+    (job.count, job.family, job.policy) = (random.octet(), random.octet(), random.octet());
+    job.name.len = random.octet();
+    random.fill(&mut job.name.octets);
+    random.fill(&mut job.dhcid);
+    random.fill(&mut job.address);
+}
+
 pub fn no_family(random: &mut Random) -> u8 {
     random.pick(&[0, 1, 2, 3, 5, 7, 46, 255])
 }

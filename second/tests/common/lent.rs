@@ -7,7 +7,7 @@ use std::mem;
 use std::ptr;
 use std::slice;
 
-use jespurla::{Entry, Zone};
+use jespurla::raw::{Entry, Zone};
 
 use super::random::Random;
 

@@ -1,9 +1,11 @@
 //! Requests sent to the product, and the second program's answers in the
 //! product's numbers.
 
-use jespurla::{
-    Address, Answered, Dhcid, Job, LeaseAnswer, NewJob, Number, RequestAnswer, StepAnswer, Zone,
+use jespurla::raw::{
+    self, Address, Answered, Dhcid, FindAnswer, FlagAnswer, Job, LeaseAnswer, NameAnswer, NewJob,
+    RequestAnswer, SameAnswer, StepAnswer, Zone,
 };
+use second::zone;
 
 use super::requests::{Kind, Reply, Request};
 use super::twin::Twin;
@@ -40,7 +42,7 @@ impl Way {
     pub fn step(self, zone: &mut Zone, job: &Job) -> StepAnswer {
         match self {
             Way::ByValue => replace_by_stepped(zone, job),
-            Way::Lent => jespurla::job_step_lent(zone, job),
+            Way::Lent => raw::job_step_lent(zone, job),
         }
     }
 
@@ -68,7 +70,7 @@ fn replace_by_sent(zone: &mut Zone, request: &Request) -> RequestAnswer {
 
 #[inline(never)]
 fn replace_by_stepped(zone: &mut Zone, job: &Job) -> StepAnswer {
-    let got = jespurla::job_step(zone, job);
+    let got = raw::job_step(zone, job);
     *zone = got.zone;
     StepAnswer {
         refusal: got.refusal,
@@ -81,10 +83,10 @@ pub fn send(zone: &Zone, request: &Request) -> Answered {
     let (name, family) = (&request.name.twin(), request.family);
     let (dhcid, address) = (&dhcid(request), &address(request));
     match request.kind {
-        Kind::A => jespurla::request_a(zone, name, dhcid, family, address),
-        Kind::B => jespurla::request_b(zone, name, dhcid, family, address, request.policy),
-        Kind::RemoveFirst => jespurla::request_remove_address(zone, name, dhcid, family, address),
-        Kind::RemoveSecond => jespurla::request_remove_name(zone, name, dhcid, family, address),
+        Kind::A => raw::request_a(zone, name, dhcid, family, address),
+        Kind::B => raw::request_b(zone, name, dhcid, family, address, request.policy),
+        Kind::RemoveFirst => raw::request_remove_address(zone, name, dhcid, family, address),
+        Kind::RemoveSecond => raw::request_remove_name(zone, name, dhcid, family, address),
     }
 }
 
@@ -93,14 +95,10 @@ pub fn send_lent(zone: &mut Zone, request: &Request) -> RequestAnswer {
     let (name, family) = (&request.name.twin(), request.family);
     let (dhcid, address) = (&dhcid(request), &address(request));
     match request.kind {
-        Kind::A => jespurla::request_a_lent(zone, name, dhcid, family, address),
-        Kind::B => jespurla::request_b_lent(zone, name, dhcid, family, address, request.policy),
-        Kind::RemoveFirst => {
-            jespurla::request_remove_address_lent(zone, name, dhcid, family, address)
-        }
-        Kind::RemoveSecond => {
-            jespurla::request_remove_name_lent(zone, name, dhcid, family, address)
-        }
+        Kind::A => raw::request_a_lent(zone, name, dhcid, family, address),
+        Kind::B => raw::request_b_lent(zone, name, dhcid, family, address, request.policy),
+        Kind::RemoveFirst => raw::request_remove_address_lent(zone, name, dhcid, family, address),
+        Kind::RemoveSecond => raw::request_remove_name_lent(zone, name, dhcid, family, address),
     }
 }
 
@@ -108,13 +106,13 @@ pub fn send_lent(zone: &mut Zone, request: &Request) -> RequestAnswer {
 #[inline(never)]
 pub fn check(zone: &Zone, request: &Request) -> u32 {
     let policy = policy(request);
-    jespurla::zone_check(zone, &request.name.twin(), request.family, policy)
+    raw::zone_check(zone, &request.name.twin(), request.family, policy).refusal
 }
 
 /// The same, asked of a lent zone.
 pub fn check_lent(zone: &Zone, request: &Request) -> u32 {
     let policy = policy(request);
-    jespurla::zone_check_lent(zone, &request.name.twin(), request.family, policy)
+    raw::zone_check_lent(zone, &request.name.twin(), request.family, policy).refusal
 }
 
 /// The policy that a check is asked with; B alone has one.
@@ -130,8 +128,8 @@ pub fn new_job(request: &Request) -> NewJob {
     let (name, family) = (&request.name.twin(), request.family);
     let (dhcid, address) = (&dhcid(request), &address(request));
     match request.kind {
-        Kind::A => jespurla::new_add(name, dhcid, family, address, request.policy),
-        _ => jespurla::new_remove(name, dhcid, family, address),
+        Kind::A => raw::new_add(name, dhcid, family, address, request.policy),
+        _ => raw::new_remove(name, dhcid, family, address),
     }
 }
 
@@ -150,31 +148,62 @@ fn address(request: &Request) -> Address {
 /// The reply that an answer's number stands for.
 pub fn reply(kind: Kind, number: u32) -> Option<Reply> {
     match (kind, number) {
-        (_, jespurla::NOERROR) => Some(Reply::Success),
-        (Kind::RemoveFirst, jespurla::NXRRSET) => Some(Reply::NotOurs),
-        (Kind::RemoveSecond, jespurla::YXRRSET) => Some(Reply::YxRrset),
-        (Kind::B, jespurla::NXDOMAIN) => Some(Reply::NxDomain),
-        (Kind::A, jespurla::YXDOMAIN) => Some(Reply::YxDomain),
-        (Kind::B | Kind::RemoveSecond, jespurla::NXRRSET) => Some(Reply::NxRrset),
-        (Kind::A | Kind::B, jespurla::NO_ROOM) => Some(Reply::NoRoom),
+        (_, raw::NOERROR) => Some(Reply::Success),
+        (Kind::RemoveFirst, raw::NXRRSET) => Some(Reply::NotOurs),
+        (Kind::RemoveSecond, raw::YXRRSET) => Some(Reply::YxRrset),
+        (Kind::B, raw::NXDOMAIN) => Some(Reply::NxDomain),
+        (Kind::A, raw::YXDOMAIN) => Some(Reply::YxDomain),
+        (Kind::B | Kind::RemoveSecond, raw::NXRRSET) => Some(Reply::NxRrset),
+        (Kind::A | Kind::B, raw::NO_ROOM) => Some(Reply::NoRoom),
         _ => None,
     }
 }
 
-/// The number that a result of the name option's calls stands for.
-pub fn number<T: Into<u64>>(result: Result<T, u8>) -> Number {
-    Number(match result {
-        Ok(answer) => answer.into() as u32,
-        Err(refusal) => u32::from(refusal) << 16,
-    })
+/// The refusal of a result, 0 for none.
+fn refusal<T>(result: &Result<T, u8>) -> u32 {
+    result.as_ref().err().map_or(0, |&refusal| refusal.into())
+}
+
+/// The answer that a result of the flag decision stands for.
+pub fn flag_answer(result: Result<u8, u8>) -> FlagAnswer {
+    FlagAnswer {
+        refusal: refusal(&result),
+        flags: result.map_or(0, u32::from),
+    }
+}
+
+/// The answer that a result of the name option's answer stands for.
+pub fn name_answer(result: Result<usize, u8>) -> NameAnswer {
+    NameAnswer {
+        refusal: refusal(&result),
+        length: result.map_or(0, |length| length as u32),
+    }
 }
 
 /// The answer that a result of the lease query stands for.
 pub fn lease_answer(result: Result<(u8, usize), u8>) -> LeaseAnswer {
     let (kind, length) = result.unwrap_or((0, 0));
     LeaseAnswer {
-        refusal: result.err().map_or(0, u32::from),
+        refusal: refusal(&result),
         kind: u32::from(kind),
         length: length as u32,
+    }
+}
+
+/// The answer that the word on two zones stands for.
+pub fn same_answer(result: Result<bool, u8>) -> SameAnswer {
+    SameAnswer {
+        refusal: refusal(&result),
+        same: u32::from(result == Ok(true)),
+    }
+}
+
+/// The answer that what was found at a name stands for: zeros where that is
+/// nothing.
+pub fn find_answer(result: Result<Option<&zone::Entry>, u8>) -> FindAnswer {
+    let found = result.ok().flatten();
+    FindAnswer {
+        refusal: refusal(&result),
+        entry: found.unwrap_or(&zone::Entry::FREE).twin(),
     }
 }

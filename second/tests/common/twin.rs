@@ -1,6 +1,6 @@
 //! The same value in the other program's types.
 
-use jespurla::{Address, Dhcid, Moment, Server, ServerListState, Set4, Set6};
+use jespurla::raw::{self, Address, Dhcid, Moment, Server, ServerListState, Set4, Set6};
 use second::zone::Set;
 use second::{job, lease_query, server_list, zone};
 
@@ -10,10 +10,10 @@ pub trait Twin {
 }
 
 impl Twin for lease_query::Lease {
-    type Other = jespurla::Lease;
+    type Other = raw::Lease;
 
-    fn twin(&self) -> jespurla::Lease {
-        jespurla::Lease {
+    fn twin(&self) -> raw::Lease {
+        raw::Lease {
             last: Moment(self.last_transaction),
             expiry: Moment(self.expiry),
             chaddr: self.chaddr,
@@ -30,9 +30,9 @@ impl Twin for lease_query::Lease {
 }
 
 impl Twin for [lease_query::Lease] {
-    type Other = Vec<jespurla::Lease>;
+    type Other = Vec<raw::Lease>;
 
-    fn twin(&self) -> Vec<jespurla::Lease> {
+    fn twin(&self) -> Vec<raw::Lease> {
         self.iter().map(Twin::twin).collect()
     }
 }
@@ -68,17 +68,17 @@ impl Twin for ServerListState {
 }
 
 impl Twin for zone::Name {
-    type Other = jespurla::Name;
+    type Other = raw::Name;
 
-    fn twin(&self) -> jespurla::Name {
-        jespurla::Name {
+    fn twin(&self) -> raw::Name {
+        raw::Name {
             octets: self.octets,
             length: self.len,
         }
     }
 }
 
-impl Twin for jespurla::Name {
+impl Twin for raw::Name {
     type Other = zone::Name;
 
     fn twin(&self) -> zone::Name {
@@ -90,11 +90,11 @@ impl Twin for jespurla::Name {
 }
 
 impl Twin for zone::Entry {
-    type Other = jespurla::Entry;
+    type Other = raw::Entry;
 
-    fn twin(&self) -> jespurla::Entry {
+    fn twin(&self) -> raw::Entry {
         let (v4, v6) = (self.v4, self.v6);
-        jespurla::Entry {
+        raw::Entry {
             kind: self.kind,
             name: self.name.twin(),
             dhcid: Dhcid { octets: self.dhcid },
@@ -110,7 +110,7 @@ impl Twin for zone::Entry {
     }
 }
 
-impl Twin for jespurla::Entry {
+impl Twin for raw::Entry {
     type Other = zone::Entry;
 
     fn twin(&self) -> zone::Entry {
@@ -131,16 +131,16 @@ impl Twin for jespurla::Entry {
 }
 
 impl Twin for zone::Zone {
-    type Other = jespurla::Zone;
+    type Other = raw::Zone;
 
-    fn twin(&self) -> jespurla::Zone {
-        jespurla::Zone {
+    fn twin(&self) -> raw::Zone {
+        raw::Zone {
             entries: std::array::from_fn(|at| self.entries[at].twin()),
         }
     }
 }
 
-impl Twin for jespurla::Zone {
+impl Twin for raw::Zone {
     type Other = zone::Zone;
 
     fn twin(&self) -> zone::Zone {
@@ -151,10 +151,10 @@ impl Twin for jespurla::Zone {
 }
 
 impl Twin for job::Job {
-    type Other = jespurla::Job;
+    type Other = raw::Job;
 
-    fn twin(&self) -> jespurla::Job {
-        jespurla::Job {
+    fn twin(&self) -> raw::Job {
+        raw::Job {
             stage: self.stage,
             count: self.count,
             family: self.family,
@@ -168,7 +168,7 @@ impl Twin for job::Job {
     }
 }
 
-impl Twin for jespurla::Job {
+impl Twin for raw::Job {
     type Other = job::Job;
 
     fn twin(&self) -> job::Job {

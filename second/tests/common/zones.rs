@@ -32,7 +32,7 @@ pub struct Stock {
 }
 
 /// A name with anything in the octets past its length.
-fn name_of(random: &mut Random, octets: &[u8]) -> Name {
+pub fn name_of(random: &mut Random, octets: &[u8]) -> Name {
     let mut name = Name::EMPTY;
     random.fill(&mut name.octets);
     name.octets[..octets.len()].copy_from_slice(octets);
@@ -273,7 +273,7 @@ pub fn no_full_name(random: &mut Random) -> Name {
 }
 
 /// Puts the entries in any order.
-fn shuffle(random: &mut Random, zone: &mut Zone) {
+pub fn shuffle(random: &mut Random, zone: &mut Zone) {
     for last in (1..PLACES).rev() {
         zone.entries.swap(last, random.between(0, last));
     }
