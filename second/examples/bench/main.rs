@@ -6,6 +6,7 @@ mod common;
 mod job;
 mod lease_query;
 mod lent;
+mod lookup;
 mod name_option;
 mod second_lent;
 mod server_list;
@@ -23,6 +24,7 @@ fn main() {
         zone::run(&mut table);
         job::run(&mut table);
         lent::run(&mut table);
+        lookup::run(&mut table);
     }
     table.print();
 }

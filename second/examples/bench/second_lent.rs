@@ -1,10 +1,13 @@
 //! The second program on a lent zone: behind the product's interface, where
 //! all but the zone is handed in and back, and on references.
 
+use jespurla::raw::SameAnswer;
 use second::job::{self, Job};
-use second::zone::{self, Address, Dhcid, Name, Zone};
+use second::lookup;
+use second::zone::{self, Address, Dhcid, Entry, Name, Zone};
 
 use crate::common::jobs::fresh;
+use crate::common::product::same_answer;
 use crate::common::requests::{self, Kind, Reply, Request};
 use crate::job::{second_add, second_remove};
 
@@ -63,6 +66,24 @@ extern "C" fn step(zone: &mut Zone, mut job: Job) -> (u8, Job) {
     (refusal.unwrap_or(0), job)
 }
 
+/// Whether two zones are the same, behind the product's interface.
+#[allow(improper_ctypes_definitions)]
+#[inline(never)]
+pub extern "C" fn same(left: &Zone, right: &Zone) -> SameAnswer {
+    same_answer(lookup::same(left, right))
+}
+
+/// What stands at a name, behind the product's interface: the refusal or 0, and
+/// a copy of the place or a free one.
+#[allow(improper_ctypes_definitions)]
+#[inline(never)]
+pub extern "C" fn find(zone: &Zone, name: Name) -> (u8, Entry) {
+    match lookup::find(zone, &name) {
+        Ok(found) => (0, *found.unwrap_or(&Entry::FREE)),
+        Err(refusal) => (refusal, Entry::FREE),
+    }
+}
+
 /// A request behind the product's interface.
 pub fn send(zone: &mut Zone, request: &Request) -> Option<Reply> {
     let Request {
@@ -105,6 +126,18 @@ pub fn run(zone: &mut Zone, request: &Request) -> Job {
 #[inline(never)]
 pub fn check_on_references(zone: &Zone, name: &Name, family: u8, policy: u8) -> Result<(), u8> {
     zone::check_request(zone, name, family, policy)
+}
+
+/// Whether two zones are the same, on references.
+#[inline(never)]
+pub fn same_on_references(left: &Zone, right: &Zone) -> Result<bool, u8> {
+    lookup::same(left, right)
+}
+
+/// What stands at a name, on references.
+#[inline(never)]
+pub fn find_on_references<'a>(zone: &'a Zone, name: &Name) -> Result<Option<&'a Entry>, u8> {
+    lookup::find(zone, name)
 }
 
 /// A request on references.
