@@ -15,10 +15,12 @@ use common::variants::rewrite;
 use common::zones::{self, name_of, no_full_name, Stock};
 use jespurla::raw::{self, FindAnswer};
 use second::lookup::find;
-use second::zone::{as_set, Entry, Name, Zone, FREE, HELD, PLACES};
+use second::zone::{as_set, Entry, Name, Zone, FREE, HELD, PLACES, STATIC};
 
 /// Names looked for by one run, at the least.
-const NAMES: usize = 400_000;
+const NAMES: usize = 500_000;
+/// Full zones whose every name is looked for.
+const FULL_ZONES: usize = 2_000;
 /// Cases of each kind and each place, at the least.
 const EACH: usize = 1_000;
 
@@ -48,6 +50,9 @@ const KINDS: &[&str] = &[
     "absent, 64 names in the zone",
 ];
 
+/// What is found at each of the places.
+const FOUND: [&str; 3] = ["static", "held", "of 255 octets"];
+
 /// A zone, a name to look for, how it was come by, and what is wrong with
 /// either.
 struct Case<'a> {
@@ -61,8 +66,8 @@ struct Case<'a> {
 struct Run {
     random: Random,
     tally: Tally,
-    /// How often a name was found at each of the places.
-    places: [usize; PLACES],
+    /// How often a name was found at each place, static, held and long ones.
+    places: [[usize; PLACES]; FOUND.len()],
 }
 
 impl Run {
@@ -70,7 +75,7 @@ impl Run {
         Run {
             random: Random::new(seed),
             tally: Tally::new(&[KINDS, zones::FAULTS, &lengths::labels()]),
-            places: [0; PLACES],
+            places: [[0; PLACES]; FOUND.len()],
         }
     }
 
@@ -114,12 +119,14 @@ impl Run {
     fn count_found(&mut self, case: &Case, found: &Entry) {
         let at = |entry: &Entry| std::ptr::eq(entry, found);
         let at = case.zone.entries.iter().position(at);
-        self.places[at.expect("a place of the zone")] += 1;
+        let at = at.expect("a place of the zone");
+        self.places[usize::from(found.kind == HELD)][at] += 1;
         if found.name.octets != case.name.octets {
             self.tally.count("found, octets past its length differ");
         }
         if case.name.len == 255 {
             self.tally.count("found, 255 octets");
+            self.places[2][at] += 1;
         }
         match names_in(case.zone) {
             1 => self.tally.count("found, one name in the zone"),
@@ -219,15 +226,45 @@ impl Run {
         }
     }
 
+    /// Every name of a full zone of names of 255 octets.
+    fn full_zone(&mut self) {
+        let stock = Stock::new(&mut self.random);
+        let mut zone = Zone::EMPTY;
+        for entry in &mut zone.entries {
+            let octets = names::full(&mut self.random, 255);
+            let name = name_of(&mut self.random, &octets);
+            *entry = stock.entry(&mut self.random, name);
+            entry.kind = self.random.pick(&[STATIC, HELD]);
+        }
+        let lent = zone.twin();
+        for entry in &zone.entries {
+            let case = Case {
+                zone: &zone,
+                name: entry.name,
+                drawn: "there",
+                faults: Vec::new(),
+            };
+            self.compare(&lent, &case);
+        }
+    }
+
     fn whole(mut self) {
+        for _ in 0..FULL_ZONES {
+            self.full_zone();
+        }
         while self.tally.cases < NAMES {
             self.group();
         }
         let title = format!("seed {}, names of zones", self.random.seed);
         self.tally.report(&title, NAMES, EACH);
-        let least = self.places.iter().min().expect("64 places");
-        println!("  {:<36}{least:>9}", "found, at each of the places");
-        assert!(*least >= EACH, "found too rarely: {:?}", self.places);
+        for (what, places) in FOUND.iter().zip(&self.places) {
+            let least = *places.iter().min().expect("64 places");
+            println!(
+                "  {:<36}{least:>9}",
+                format!("{what}, each place at the least")
+            );
+            assert!(least >= EACH, "{what}, at too few: {places:?}");
+        }
     }
 }
 

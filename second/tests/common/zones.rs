@@ -117,7 +117,7 @@ impl Stock {
         set
     }
 
-    fn entry(&self, random: &mut Random, name: Name) -> Entry {
+    pub fn entry(&self, random: &mut Random, name: Name) -> Entry {
         let counts = [0, 0, 0, 0, 1, 1, 2, 4, 4, 4];
         let (fours, sixes) = (random.pick(&counts), random.pick(&counts));
         let dhcid = random.below(self.dhcids.len());
