@@ -11,7 +11,7 @@ use common::random::{from_both_seeds, Random};
 use common::requests::{self, Kind, Reply, Request};
 use common::tally::Tally;
 use common::twin::Twin;
-use common::zones::{self, no_full_name, same_zone, Stock};
+use common::zones::{self, names_in, no_full_name, same_zone, Stock};
 use jespurla::raw::{self, RequestAnswer};
 use second::zone::{as_set, check, Entry, Zone, FREE, HELD, PLACES, STATIC};
 
@@ -280,8 +280,7 @@ fn count_answer(tally: &mut Tally, zone: &Zone, request: &Request, reply: Reply)
 }
 
 fn count_a(tally: &mut Tally, zone: &Zone, request: &Request, reply: Reply) {
-    let held = zone.entries.iter().filter(|entry| entry.kind != FREE);
-    let held = held.count();
+    let held = names_in(zone);
     match reply {
         Reply::Success => {
             tally.count(&format!("A: added, family {}", request.family));

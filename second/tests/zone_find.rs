@@ -12,7 +12,7 @@ use common::random::{from_both_seeds, Random};
 use common::tally::Tally;
 use common::twin::Twin;
 use common::variants::rewrite;
-use common::zones::{self, name_of, no_full_name, Stock};
+use common::zones::{self, name_of, names_in, no_full_name, some_place, Stock};
 use jespurla::raw::{self, FindAnswer};
 use second::lookup::find;
 use second::zone::{as_set, Entry, Name, Zone, FREE, HELD, PLACES, STATIC};
@@ -203,7 +203,7 @@ impl Run {
         case.faults.push(label);
         let got = lengths::find((&lent, length), &case.name.twin());
         assert_eq!(got, find_answer(Err(17)), "{label}");
-        assert!(is_same(&lent.zone, &given.zone), "the zone is only read");
+        assert!(is_same(&lent, &given), "the zone is only read");
         self.count(&case, &got);
     }
 
@@ -268,18 +268,11 @@ impl Run {
     }
 }
 
-/// How many names a zone has.
-fn names_in(zone: &Zone) -> usize {
-    let named = zone.entries.iter().filter(|entry| entry.kind != FREE);
-    named.count()
-}
-
 /// The octets of a full name at some place whose kind passes a test.
 fn place(random: &mut Random, zone: &Zone, test: impl Fn(u8) -> bool) -> Option<Vec<u8>> {
-    let first = random.below(PLACES);
-    let mut places = zone.entries[first..].iter().chain(&zone.entries[..first]);
-    let wanted = places.find(|entry| test(entry.kind) && entry.name.is_full());
-    wanted.map(|entry| entry.name.as_slice().to_vec())
+    let test = |entry: &Entry| test(entry.kind) && entry.name.is_full();
+    let at = some_place(random, zone, test)?;
+    Some(zone.entries[at].name.as_slice().to_vec())
 }
 
 /// A full name near another, and how it differs.

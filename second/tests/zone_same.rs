@@ -10,7 +10,7 @@ use common::random::{from_both_seeds, Random};
 use common::tally::Tally;
 use common::twin::Twin;
 use common::variants::{self, alter_zone, rewrite};
-use common::zones::{self, Stock};
+use common::zones::{self, names_in, Stock};
 use jespurla::raw::{self, SameAnswer};
 use second::lookup::same;
 use second::zone::{as_set, Zone, FREE, PLACES};
@@ -114,7 +114,7 @@ impl Run {
         if ways.is_empty() {
             self.tally.count("same: octet for octet");
         }
-        match names(left) {
+        match names_in(left) {
             0 => self.tally.count("same: both without names"),
             PLACES => self.tally.count("same: both of 64 names"),
             _ => {}
@@ -128,7 +128,7 @@ impl Run {
         self.rewrite(&mut right);
         assert_eq!(self.compare(left, &right), Ok(false), "{difference}");
         self.tally.count(difference);
-        if [names(left), names(&right)] == [PLACES; 2] {
+        if [names_in(left), names_in(&right)] == [PLACES; 2] {
             self.tally.count("other: both of 64 names");
         }
     }
@@ -188,7 +188,7 @@ impl Run {
         let got = lengths::same((&lent[0], left), (&lent[1], right));
         assert_eq!(got, same_answer(Err(17)), "{label}, {side}");
         for (lent, given) in lent.iter().zip(&given) {
-            assert!(is_same(&lent.zone, &given.zone), "the zone is only read");
+            assert!(is_same(lent, given), "the zone is only read");
         }
         self.count(got);
         self.tally.count(label);
@@ -224,12 +224,6 @@ impl Run {
             tally.report(&format!("seed {seed}, {side}"), EACH, EACH);
         }
     }
-}
-
-/// How many names a zone has.
-fn names(zone: &Zone) -> usize {
-    let named = zone.entries.iter().filter(|entry| entry.kind != FREE);
-    named.count()
 }
 
 #[test]

@@ -7,6 +7,8 @@ use std::ptr;
 
 use jespurla::raw::{FindAnswer, Name, SameAnswer, Zone};
 
+use super::lent::OfOctets;
+
 /// Lengths that are not a zone's, within the memory that is there.
 pub const WRONG: [(&str, usize); 4] = [
     ("17: length 0", 0),
@@ -27,6 +29,8 @@ pub struct Longer {
     pub zone: Zone,
     pub behind: u8,
 }
+
+impl OfOctets for Longer {}
 
 extern "C" {
     fn jespurla_zone_same(

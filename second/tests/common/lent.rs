@@ -27,12 +27,12 @@ fn octets<T: OfOctets>(whole: &T) -> &[u8] {
 }
 
 /// The structs that are made of octets alone.
-trait OfOctets {}
+pub trait OfOctets {}
 impl OfOctets for Entry {}
 impl OfOctets for Zone {}
 
-/// Whether two zones are alike to the last octet.
-pub fn is_same(left: &Zone, right: &Zone) -> bool {
+/// Whether two of them are alike to the last octet.
+pub fn is_same<T: OfOctets>(left: &T, right: &T) -> bool {
     octets(afresh(left)) == octets(afresh(right))
 }
 

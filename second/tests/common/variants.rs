@@ -3,7 +3,7 @@
 use second::zone::{check, Entry, Name, Set, Zone, FREE, HELD, PLACES, SET_MAX, STATIC};
 
 use super::random::Random;
-use super::zones::shuffle;
+use super::zones::{shuffle, some_place};
 
 /// A change to a sound zone; false where the zone has nothing that it could
 /// change, and is then as before.
@@ -236,13 +236,6 @@ fn fill_free(random: &mut Random, zone: &mut Zone) -> bool {
         changed = true;
     }
     changed
-}
-
-/// A place that passes a test, drawn at random.
-fn some_place(random: &mut Random, zone: &Zone, test: impl Fn(&Entry) -> bool) -> Option<usize> {
-    let first = random.below(PLACES);
-    let mut places = (first..PLACES).chain(0..first);
-    places.find(|&at| test(&zone.entries[at]))
 }
 
 /// Copies a name to a free place, which stays free.

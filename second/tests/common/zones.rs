@@ -279,6 +279,23 @@ pub fn shuffle(random: &mut Random, zone: &mut Zone) {
     }
 }
 
+/// How many names a zone has.
+pub fn names_in(zone: &Zone) -> usize {
+    let named = zone.entries.iter().filter(|entry| entry.kind != FREE);
+    named.count()
+}
+
+/// A place that passes a test, from a random one on, if there is one.
+pub fn some_place(
+    random: &mut Random,
+    zone: &Zone,
+    test: impl Fn(&Entry) -> bool,
+) -> Option<usize> {
+    let first = random.below(PLACES);
+    let mut places = (first..PLACES).chain(0..first);
+    places.find(|&at| test(&zone.entries[at]))
+}
+
 /// Whether two places are free, or have the same name with the same owner and
 /// addresses in the same order.
 pub fn same_place(left: &Entry, right: &Entry) -> bool {
