@@ -1,4 +1,8 @@
 // One place in 374 octets: what stands there.
+use crate::layout::DHCID;
+use crate::layout::PLACE_SIZE;
+use crate::layout::SET4;
+use crate::layout::SET6;
 use addresses::set4;
 use addresses::set4::Addr4;
 use addresses::set4::Set4;
@@ -78,9 +82,9 @@ pub(crate) fn records_in(e: &[u8]) -> Records
     requires { ⌜ length (now e) ≡ 374 ⌝ }
     ensures { λ r. ⌜ r ≡ recordsOf (entryIn (now (e .entry))) ⌝ }
 {
-    let dhcid = dhcid_in(&e[257..292]);
-    let v4 = set4_in(&e[292..309]);
-    let v6 = set6_in(&e[309..374]);
+    let dhcid = dhcid_in(&e[DHCID..SET4]);
+    let v4 = set4_in(&e[SET4..SET6]);
+    let v6 = set6_in(&e[SET6..PLACE_SIZE]);
     Records {
         kind: e[0],
         dhcid: dhcid,
@@ -148,8 +152,8 @@ pub(crate) fn are_sets_sound(e: &[u8]) -> bool
     requires { ⌜ length (now e) ≡ 374 ⌝ }
     ensures { λ r. ⌜ r ≡ soundSets (entryIn (now (e .entry)) .v4) (entryIn (now (e .entry)) .v6) ⌝ }
 {
-    if !is_sound4_in(&e[292..309]) {
+    if !is_sound4_in(&e[SET4..SET6]) {
         return false;
     }
-    is_sound6_in(&e[309..374])
+    is_sound6_in(&e[SET6..PLACE_SIZE])
 }

@@ -1,5 +1,7 @@
 // What the walk over the places needs to know of one of them.
 use crate::decode;
+use crate::layout::NAME;
+use crate::layout::NAME_LENGTH;
 use dname::name;
 use zone::entry;
 use zone::fingerprint;
@@ -34,8 +36,8 @@ pub(crate) fn look_at(e: &[u8], fingerprint: u32, n: &[u8]) -> Look
     requires { ⌜ (length (now e) ≡ 374) × (fingerprint ≡ fingerprintWords (now n)) × (getD (now e) 0 0 ≡ 0 → ⊥) ⌝ }
     ensures { λ r. ⌜ Looked (now (n .entry)) (entryIn (now (e .entry))) r ⌝ }
 {
-    let end = 1 + (e[256] as usize);
-    let octets = &e[1..end];
+    let end = NAME + (e[NAME_LENGTH] as usize);
+    let octets = &e[NAME..end];
     let own = fingerprint::fingerprint(octets);
     let full = name::is_full_name(octets);
     let sets = decode::are_sets_sound(e);
@@ -56,6 +58,6 @@ pub(crate) fn is_named(e: &[u8], n: &[u8]) -> bool
     if e[0] == 0 {
         return false;
     }
-    let end = 1 + (e[256] as usize);
-    dname::same_name(&e[1..end], n)
+    let end = NAME + (e[NAME_LENGTH] as usize);
+    dname::same_name(&e[NAME..end], n)
 }

@@ -1,4 +1,7 @@
 // Whether no two names are equal.
+use crate::layout::NAME;
+use crate::layout::NAME_LENGTH;
+use crate::layout::PLACE_SIZE;
 use crate::look;
 ghost use mathlib.Core.Path.{_≡_};
 ghost use mathlib.Core.Bool.{true};
@@ -16,8 +19,8 @@ fn named_from(z: &[u8], n: &[u8], from: usize) -> bool
 {
     let mut i = from;
     while i < 64 {
-        let at = i * 374;
-        let end = at + 374;
+        let at = i * PLACE_SIZE;
+        let end = at + PLACE_SIZE;
         if look::is_named(&z[at..end], n) {
             return true;
         }
@@ -31,8 +34,8 @@ fn stands_from(z: &[u8], e: &[u8], from: usize) -> bool
     requires { ⌜ (length (now z) ≡ 23936) × (length (now e) ≡ 374) × (from ≤ 64) ⌝ }
     ensures { λ r. ⌜ r ≡ member (keyOf (entryIn (now (e .entry)))) (keys (drop from (zoneIn (now (z .entry)) .entries))) ⌝ }
 {
-    let end = 1 + (e[256] as usize);
-    named_from(z, &e[1..end], from)
+    let end = NAME + (e[NAME_LENGTH] as usize);
+    named_from(z, &e[NAME..end], from)
 }
 
 // Whether no two names are equal, name by name.
@@ -42,8 +45,8 @@ fn distinct_names(z: &[u8]) -> bool
 {
     let mut i: usize = 0;
     while i < 64 {
-        let at = i * 374;
-        let end = at + 374;
+        let at = i * PLACE_SIZE;
+        let end = at + PLACE_SIZE;
         i += 1;
         if z[at] != 0 {
             if stands_from(z, &z[at..end], i) {

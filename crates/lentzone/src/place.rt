@@ -2,6 +2,9 @@
 // where there are not 23,936 octets, or no such place, nothing is written.
 use crate::decode;
 use crate::encode;
+use crate::layout::DHCID;
+use crate::layout::PLACE_SIZE;
+use crate::layout::ZONE_SIZE;
 use dname::name::Name;
 use octets::write;
 use zone::entry::Entry;
@@ -16,7 +19,7 @@ ghost use Rattle.lentzone.specs.Inner.{rowAt, recordsAt, nameAt, Written
 fn nothing() -> Records
     ensures { λ r. ⌜ r ≡ recordsOf (entryIn (replicate 374 0)) ⌝ }
 {
-    let blank = [0u8; 374];
+    let blank = [0u8; PLACE_SIZE];
     decode::records_in(&blank)
 }
 
@@ -32,14 +35,14 @@ fn free_entry() -> Entry
 pub fn records_at(z: &[u8], place: usize) -> Records
     ensures { λ r. ⌜ r ≡ recordsAt (now (z .entry)) place ⌝ }
 {
-    if z.len() != 23936 {
+    if z.len() != ZONE_SIZE {
         return nothing();
     }
     if 64 <= place {
         return nothing();
     }
-    let at = place * 374;
-    let end = at + 374;
+    let at = place * PLACE_SIZE;
+    let end = at + PLACE_SIZE;
     decode::records_in(&z[at..end])
 }
 
@@ -63,10 +66,10 @@ pub fn write_records(z: &mut [u8], place: usize, r: Records)
     ensures { λ u. ⌜ Written (now (z .entry)) place (placeOf (nameAt (now (z .entry)) place) r) (now (z .exit)) ⌝ }
 {
     if place < 64 {
-        if z.len() == 23936 {
-            let at = place * 374;
+        if z.len() == ZONE_SIZE {
+            let at = place * PLACE_SIZE;
             write::put_octet(z, at, r.kind);
-            encode::put_records(r, z, at + 257);
+            encode::put_records(r, z, at + DHCID);
         }
     }
 }
@@ -76,8 +79,8 @@ pub fn write_entry(z: &mut [u8], place: usize, n: Name, r: Records)
     ensures { λ u. ⌜ Written (now (z .entry)) place (placeOf n r) (now (z .exit)) ⌝ }
 {
     if place < 64 {
-        if z.len() == 23936 {
-            encode::put_entry(n, r, z, place * 374);
+        if z.len() == ZONE_SIZE {
+            encode::put_entry(n, r, z, place * PLACE_SIZE);
         }
     }
 }

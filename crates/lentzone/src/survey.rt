@@ -1,4 +1,6 @@
 // The places of a zone in lent octets, summed up.
+use crate::layout::PLACE_SIZE;
+use crate::layout::ZONE_SIZE;
 use crate::look;
 use crate::names;
 use zone::fingerprint;
@@ -24,8 +26,8 @@ fn survey_of(z: &[u8], n: &[u8]) -> Survey
     let mut free: usize = 64;
     let mut i: usize = 0;
     while i < 64 {
-        let at = i * 374;
-        let end = at + 374;
+        let at = i * PLACE_SIZE;
+        let end = at + PLACE_SIZE;
         if z[at] == 0 {
             free = i;
             i += 1;
@@ -52,7 +54,7 @@ fn survey_of(z: &[u8], n: &[u8]) -> Survey
 pub fn survey_in(z: &[u8], n: &[u8]) -> Survey
     ensures { λ r. ⌜ SurveyedIn (now (z .entry)) (now (n .entry)) r ⌝ }
 {
-    if z.len() != 23936 {
+    if z.len() != ZONE_SIZE {
         return Survey {
             inorder: false,
             distinct: false,
