@@ -61,6 +61,19 @@ lists-tell l m e = and-both (within l m) (within m l) (set-within l m e) (set-wi
 
 -- ---- all of it
 
+module _ (a b : Records) where
+  pub host-owner : sameOwner a b ≡ false → false ≡ sameHost a b
+  unfolding sameHost
+  host-owner h = sym (rw h)
+
+  pub host-sets4 : sameOwner a b ≡ true → sameLists (list4 (a .v4)) (list4 (b .v4)) ≡ false → false ≡ sameHost a b
+  unfolding sameHost
+  host-sets4 h k = sym (rw (h, k))
+
+  pub host-sets6 : sameOwner a b ≡ true → sameLists (list4 (a .v4)) (list4 (b .v4)) ≡ true → sameLists (list6 (a .v6)) (list6 (b .v6)) ≡ sameHost a b
+  unfolding sameHost
+  host-sets6 h k = sym (rw (h, k))
+
 module _ (e f : Entry) where
   abbrev owners : Bool
   owners = sameOwner (recordsOf e) (recordsOf f)

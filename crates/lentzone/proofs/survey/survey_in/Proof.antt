@@ -1,10 +1,12 @@
-use mathlib.Core.Path.{refl}
+use mathlib.Core.Path.{_≡_, refl}
+use lib.ListN.{length}
+use native.Mathlib.Omega.{arith}
 use borrow.Author.Needs.{needs}
 use Rattle.lentzone.proofs.survey.survey_in.Statement.{statement}
 use Rattle.lentzone.proofs.survey.survey_in.Tie as tie
 
 returns : tie.Need-returns
-returns c = record { surveyed = λ e. absurd (c .if1 .taken e); otherwise = λ n. refl }
+returns c = record { surveyed = λ (e : length (c .before .before .before .args .z .now) ≡ 23936). absurd (omega arith); otherwise = λ n. refl }
 
 survey-of-requires : tie.Need-survey-of-requires
 survey-of-requires c κs = search needs
