@@ -60,7 +60,7 @@ orKept (some s) = s
 unfoldable pub stageOf : ℕ → ℕ → Stage
 stageOf stage count = orKept (stageAt stage count)
 
--- A stage is an end, and nothing is where the number is not listed.
+-- The number is a stage's, and the stage is an end.
 abbrev pub isEnd : Option Stage → Bool
 isEnd none = false
 isEnd (some (beforeA n)) = false
@@ -116,7 +116,7 @@ atStage j s = record {
 unfoldable pub numbersListed : Job → Bool
 numbersListed j = listed (j .family) (cond (isAdd (j .stage)) (j .policy) 0) && canHave (j .stage) (j .count)
 
--- Whether the stage that its number stands for is an end: 1 for yes, 0 for no. Its count makes no difference.
+-- Whether it has ended, 1 for yes and 0 for no. Its count makes no difference, nor does anything else but its stage.
 unfoldable pub hasEnded : Job → ℕ
 hasEnded j = cond (isEnd (stageAt (j .stage) (j .count))) 1 0
 

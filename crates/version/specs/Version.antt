@@ -6,5 +6,5 @@ abbrev pub versionOf : ℕ → ℕ → ℕ → ℕ
 versionOf major minor patch = major * 65536 + minor * 256 + patch
 
 -- This is 0.2.0.
-abbrev pub version : ℕ
+unfoldable pub version : ℕ
 version = versionOf 0 2 0

@@ -17,7 +17,7 @@ use Rattle.update.specs.Meaning.{hostOf, zoneOf}
 use Rattle.lentzone.specs.Decode.{entryIn, zoneIn}
 use Rattle.zonefind.specs.declared.FindAnswer.{FindAnswer}
 
--- The refusals in their order: the zone's form, with any other number of octets than 23,936, then a name that is not full. 0 is none.
+-- The refusals in their order: other than 23,936 octets or a zone that breaks its form, then a name that is not full. 0 is none.
 unfoldable pub findRefusal : List ℕ → Octets → ℕ
 findRefusal z name = cond (eqb (length z) 23936 && formed (zoneIn z)) (cond (isFull name) 0 11) 17
 
