@@ -1,13 +1,16 @@
 -- The zone that lent octets hold. They are laid out as the C struct is, whose fields are all octets, so that it has no gaps: each field stands
 -- right behind the one before it, in the order of its declaration.
 use mathlib.Core.Path.{_≡_}
+use mathlib.Core.Bool.{Bool, _&&_}
 use mathlib.Core.List.{List, [], _∷_, map}
 use Prim.Native.Nat.{ℕ, zero, suc, _+_, _*_}
-use lib.ListN.{getD, take, drop}
+use lib.Dec.{eqb}
+use lib.ListN.{length, getD, take, drop}
 use Rattle.addresses.specs.declared.set4.Addr4.{Addr4}
 use Rattle.addresses.specs.declared.set4.Set4.{Set4}
 use Rattle.addresses.specs.declared.set6.Addr6.{Addr6}
 use Rattle.addresses.specs.declared.set6.Set6.{Set6}
+use Rattle.zone.specs.Meaning.{formed}
 use Rattle.zone.specs.declared.entry.Entry.{Entry}
 use Rattle.zone.specs.declared.Zone.{Zone}
 
@@ -40,6 +43,10 @@ rows width (suc n) s = take width s ∷ rows width n (drop width s)
 -- The zone in 23,936 octets: 64 places, one behind the other. Of any other number of octets no promise looks at it.
 unfoldable pub zoneIn : List ℕ → Zone
 zoneIn s = record { entries = map entryIn (rows 374 64 s) }
+
+-- Octets that hold a zone of good form: 23,936 of them, and the form of "Zone, requests and jobs". Anything else is refusal 17.
+unfoldable pub isZone : List ℕ → Bool
+isZone z = eqb (length z) 23936 && formed (zoneIn z)
 
 -- No octet is another but those of one place: all before it and all behind it are as they were.
 pub record OnePlace (z after : List ℕ) : Type 0 where

@@ -1,5 +1,7 @@
 // One place in 374 octets: what stands there.
 use crate::layout::DHCID;
+use crate::layout::NAME;
+use crate::layout::NAME_LENGTH;
 use crate::layout::PLACE_SIZE;
 use crate::layout::SET4;
 use crate::layout::SET6;
@@ -110,7 +112,7 @@ pub(crate) fn entry_in(e: &[u8]) -> Entry
     requires { ⌜ length (now e) ≡ 374 ⌝ }
     ensures { λ r. ⌜ r ≡ entryIn (now (e .entry)) ⌝ }
 {
-    let name = name_in(&e[1..256], e[256]);
+    let name = name_in(&e[NAME..NAME_LENGTH], e[NAME_LENGTH]);
     let r = records_in(e);
     let dhcid = r.dhcid;
     let v4 = r.v4;

@@ -2,7 +2,7 @@
 // place of a name found, and one place read or written.
 mod decode;
 mod encode;
-mod layout;
+pub mod layout;
 mod look;
 pub mod named;
 mod names;

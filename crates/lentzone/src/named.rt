@@ -1,4 +1,6 @@
 // The place of a name.
+use crate::layout::PLACE_SIZE;
+use crate::layout::ZONE_SIZE;
 use crate::look;
 ghost use mathlib.Core.Path.{_≡_};
 ghost use Rattle.lentzone.specs.Inner.{placeIn};
@@ -8,14 +10,14 @@ ghost use Rattle.lentzone.specs.Inner.{placeIn};
 pub fn place_of(z: &[u8], n: &[u8]) -> usize
     ensures { λ r. ⌜ r ≡ placeIn (now (z .entry)) (now (n .entry)) ⌝ }
 {
-    if z.len() != 23936 {
+    if z.len() != ZONE_SIZE {
         return 64;
     }
     let mut i: usize = 64;
     while 0 < i {
         i -= 1;
-        let at = i * 374;
-        let end = at + 374;
+        let at = i * PLACE_SIZE;
+        let end = at + PLACE_SIZE;
         if look::is_named(&z[at..end], n) {
             return i;
         }

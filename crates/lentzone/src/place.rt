@@ -27,7 +27,7 @@ fn nothing() -> Records
 fn free_entry() -> Entry
     ensures { λ r. ⌜ r ≡ entryIn (replicate 374 0) ⌝ }
 {
-    let blank = [0u8; 374];
+    let blank = [0u8; PLACE_SIZE];
     decode::entry_in(&blank)
 }
 
@@ -50,14 +50,14 @@ pub fn records_at(z: &[u8], place: usize) -> Records
 pub fn entry_at(z: &[u8], place: usize) -> Entry
     ensures { λ r. ⌜ r ≡ entryIn (rowAt (now (z .entry)) place) ⌝ }
 {
-    if z.len() != 23936 {
+    if z.len() != ZONE_SIZE {
         return free_entry();
     }
     if 64 <= place {
         return free_entry();
     }
-    let at = place * 374;
-    let end = at + 374;
+    let at = place * PLACE_SIZE;
+    let end = at + PLACE_SIZE;
     decode::entry_in(&z[at..end])
 }
 

@@ -20,11 +20,11 @@ use Rattle.zone.specs.declared.entry.Entry.{Entry}
 use Rattle.zone.specs.declared.survey.Survey.{Survey}
 use Rattle.zone.proofs.SurveyLaws.{blank}
 use Rattle.update.specs.Meaning.{hostOf, look, zoneOf}
-use Rattle.lentzone.specs.Decode.{entryIn, zoneIn}
+use Rattle.lentzone.specs.Decode.{entryIn, zoneIn, isZone}
 use Rattle.lentzone.specs.Inner.{SurveyedIn, rowAt}
+use Rattle.lentzone.proofs.FormLaws.{zone-length, zone-form}
 use Rattle.lentzone.proofs.PlaceLaws.{row-no-place, place-at}
 use Rattle.request.proofs.PlaceLaws.{Alone, None, here-at, here-none, alone-found, formed-places, formed-names}
-use Rattle.request.proofs.PromiseLaws.{formed-is}
 use Rattle.zonefind.specs.Find.{findRefusal, freePlace, placeWith, findEntry, standing, SaysWhatStands}
 
 -- ---- the place with a key
@@ -59,25 +59,13 @@ with-none n (e ∷ es) h = with-past (key n) e es (unfold named sameName in h .0
 -- ---- by a survey
 
 module _ (z : List ℕ) (n : Octets) (s : Survey) (v : SurveyedIn z n s) where
-  abbrev formIn : Bool
-  formIn = eqb (length z) 23936 && formed (zoneIn z)
-
-  pub form-seen : (s .inorder && s .distinct) ≡ formIn
-  form-seen = go (ℕ-discrete (length z) 23936)
-    where
-      go : Dec (length z ≡ 23936) → (s .inorder && s .distinct) ≡ formIn
-      go (yes l) =
-          let t = v .surveyed l in
-          sym (rw (eq-eqb (length z) 23936 l) (formed-is (zoneIn z) (s .inorder) (s .distinct) (t .places .placesAre) (t .places .orderIs) (t .distinctIs)))
-      go (no m) = ap (λ (x : Survey). x .inorder && x .distinct) (v .otherwise m) ∙ sym (rw (ne-eqb (length z) 23936 m))
-
   -- the place found has the name's key, and where none is found none has it
-  module _ (f : formIn ≡ true) where
+  module _ (f : isZone z ≡ true) where
     size : length z ≡ 23936
-    size = eqb-true (length z) 23936 (and-left (eqb (length z) 23936) (formed (zoneIn z)) f)
+    size = zone-length z f
 
     form : formed (zoneIn z) ≡ true
-    form = and-right (eqb (length z) 23936) (formed (zoneIn z)) f
+    form = zone-form z f
 
     abbrev es : List Entry
     es = zoneIn z .entries
@@ -103,13 +91,13 @@ module _ (z : List ℕ) (n : Octets) (s : Survey) (v : SurveyedIn z n s) where
 -- ---- the refusal
 
 module _ (z : List ℕ) (n : Octets) where
-  pub refusal-is : (form full : Bool) → form ≡ (eqb (length z) 23936 && formed (zoneIn z)) → full ≡ isFull n → cond form (cond full 0 11) 17 ≡ findRefusal z n
+  pub refusal-is : (form full : Bool) → form ≡ isZone z → full ≡ isFull n → cond form (cond full 0 11) 17 ≡ findRefusal z n
   unfolding findRefusal
-  refusal-is form full p q = ap (λ (b : Bool). cond b (cond full 0 11) 17) p ∙ ap (λ (b : Bool). cond (eqb (length z) 23936 && formed (zoneIn z)) (cond b 0 11) 17) q
+  refusal-is form full p q = ap (λ (b : Bool). cond b (cond full 0 11) 17) p ∙ ap (λ (b : Bool). cond (isZone z) (cond b 0 11) 17) q
 
-  not-refused : findRefusal z n ≡ 0 → (eqb (length z) 23936 && formed (zoneIn z)) ≡ true
+  not-refused : findRefusal z n ≡ 0 → isZone z ≡ true
   unfolding findRefusal
-  not-refused e = cases (eqb (length z) 23936 && formed (zoneIn z)) (λ t. t) (λ t. let k : _≡_ {A = ℕ} 17 0 = sym (rw t) ∙ e in absurd (omega arith))
+  not-refused e = cases (isZone z) (λ t. t) (λ t. let k : _≡_ {A = ℕ} 17 0 = sym (rw t) ∙ e in absurd (omega arith))
 
   -- the place of the survey where nothing is refused, and no place where something is
   pub entry-is : (s : Survey) → SurveyedIn z n s → (place : ℕ) → place ≡ cond (eqb (findRefusal z n) 0) (s .found) 64 → entryIn (rowAt z place) ≡ findEntry z n

@@ -5,21 +5,21 @@ use mathlib.Core.List.{List, [], _∷_}
 use mathlib.Core.Option.{Option, none, some}
 use Prim.Native.Nat.{ℕ}
 use lib.Dec.{eqb}
-use lib.ListN.{length, replicate}
+use lib.ListN.{replicate}
 use Rattle.octets.specs.Compare.{sameOctets}
 use Rattle.octets.specs.Count.{Octets}
 use Rattle.dname.specs.Name.{nameOf, isFull, key}
 use Rattle.dname.specs.declared.name.Name.{Name}
-use Rattle.zone.specs.Meaning.{used, keyOf, formed}
+use Rattle.zone.specs.Meaning.{used, keyOf}
 use Rattle.zone.specs.declared.entry.Entry.{Entry}
 use Rattle.update.specs.Rules.{Host, atKey}
 use Rattle.update.specs.Meaning.{hostOf, zoneOf}
-use Rattle.lentzone.specs.Decode.{entryIn, zoneIn}
+use Rattle.lentzone.specs.Decode.{entryIn, zoneIn, isZone}
 use Rattle.zonefind.specs.declared.FindAnswer.{FindAnswer}
 
--- The refusals in their order: other than 23,936 octets or a zone that breaks its form, then a name that is not full. 0 is none.
+-- The refusals in their order: octets that hold no zone of good form, then a name that is not full. 0 is none.
 unfoldable pub findRefusal : List ℕ → Octets → ℕ
-findRefusal z name = cond (eqb (length z) 23936 && formed (zoneIn z)) (cond (isFull name) 0 11) 17
+findRefusal z name = cond (isZone z) (cond (isFull name) 0 11) 17
 
 -- A free place with zeros in all its octets.
 abbrev pub freePlace : Entry

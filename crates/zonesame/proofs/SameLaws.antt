@@ -18,33 +18,14 @@ use Rattle.update.specs.Rules as rules
 use Rattle.update.specs.Rules.{Host}
 use Rattle.update.specs.Meaning.{zoneOf}
 use Rattle.update.proofs.ZoneLaws.{same-zone}
-use Rattle.lentzone.specs.Decode.{zoneIn}
+use Rattle.lentzone.specs.Decode.{zoneIn, isZone}
 use Rattle.lentzone.specs.Inner.{SurveyedIn}
+use Rattle.lentzone.proofs.FormLaws.{zone-length, zone-form, survey-zone}
 use Rattle.request.proofs.PlaceLaws.{formed-order, formed-names, form-of}
 use Rattle.zonesame.specs.declared.SameAnswer.{SameAnswer}
-use Rattle.zonesame.specs.Same.{isZone, sameRefusal, SamePromise}
+use Rattle.zonesame.specs.Same.{sameRefusal, SamePromise}
 use Rattle.zonesame.specs.Inner.{allStand, Tells}
 use Rattle.zonesame.proofs.StandLaws.{all-told, all-tell}
-
-zone-length : (z : List ℕ) → isZone z ≡ true → length z ≡ 23936
-unfolding isZone
-zone-length z h = eqb-true (length z) 23936 (and-left (eqb (length z) 23936) (formed (zoneIn z)) h)
-
-zone-form : (z : List ℕ) → isZone z ≡ true → formed (zoneIn z) ≡ true
-unfolding isZone
-zone-form z h = and-right (eqb (length z) 23936) (formed (zoneIn z)) h
-
--- a survey tells it, whichever name it is for
-survey-zone : (z n : List ℕ) (s : Survey) → SurveyedIn z n s → (s .inorder && s .distinct) ≡ isZone z
-unfolding isZone formed
-survey-zone z n s v = go (ℕ-discrete (length z) 23936)
-  where
-    go : Dec (length z ≡ 23936) → (s .inorder && s .distinct) ≡ (eqb (length z) 23936 && (eqb (length (zoneIn z .entries)) 64 && (allInOrder (zoneIn z .entries) && distinct (keys (zoneIn z .entries)))))
-    go (yes l) =
-        let f = v .surveyed l in
-        rw (eq-eqb (length z) 23936 l, eq-eqb (length (zoneIn z .entries)) 64 (f .places .placesAre), f .places .orderIs, f .distinctIs)
-    go (no m) =
-        rw (ne-eqb (length z) 23936 m, ap (λ (x : Survey). x .inorder) (v .otherwise m))
 
 module _ (z n : List ℕ) (s : Survey) (v : SurveyedIn z n s) where
   pub survey-broken : s .inorder ≡ false → false ≡ isZone z

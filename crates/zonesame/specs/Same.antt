@@ -1,20 +1,13 @@
 -- Two zones compared. Document 01, "Zone, requests and jobs".
 use mathlib.Core.Path.{_≡_}
-use mathlib.Core.Bool.{Bool, cond, _&&_}
+use mathlib.Core.Bool.{cond, _&&_}
 use mathlib.Core.List.{List}
 use Prim.Native.Nat.{ℕ, _≤_}
-use lib.Dec.{eqb}
-use lib.ListN.{length}
-use Rattle.zone.specs.Meaning.{formed}
 use Rattle.update.specs.Meaning.{zoneOf}
-use Rattle.lentzone.specs.Decode.{zoneIn}
+use Rattle.lentzone.specs.Decode.{zoneIn, isZone}
 use Rattle.zonesame.specs.declared.SameAnswer.{SameAnswer}
 
--- Octets that hold a zone: 23,936 of them, and the zone has its form.
-unfoldable pub isZone : List ℕ → Bool
-isZone z = eqb (length z) 23936 && formed (zoneIn z)
-
--- Refusal 17: either of them holds no zone. 0 is none.
+-- Refusal 17: either of them holds no zone of good form. 0 is none.
 unfoldable pub sameRefusal : List ℕ → List ℕ → ℕ
 sameRefusal left right = cond (isZone left && isZone right) 0 17
 

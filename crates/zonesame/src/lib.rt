@@ -7,8 +7,8 @@ use lentzone::survey;
 ghost use mathlib.Core.Path.{_≡_};
 ghost use mathlib.Core.Bool.{true, cond, _&&_};
 ghost use Rattle.update.specs.Meaning.{zoneOf};
-ghost use Rattle.lentzone.specs.Decode.{zoneIn};
-ghost use Rattle.zonesame.specs.Same.{isZone, SamePromise};
+ghost use Rattle.lentzone.specs.Decode.{zoneIn, isZone};
+ghost use Rattle.zonesame.specs.Same.{SamePromise};
 ghost use Rattle.zonesame.specs.Inner.{Tells};
 
 // refusal: 17 where the octets of either are not 23,936 or its zone breaks its form, else 0. same: 1

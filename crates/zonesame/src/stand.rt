@@ -1,5 +1,8 @@
 // Whether all that stands in one zone stands in another.
 use crate::host;
+use lentzone::layout::NAME;
+use lentzone::layout::NAME_LENGTH;
+use lentzone::layout::PLACE_SIZE;
 use lentzone::named;
 use lentzone::place;
 ghost use mathlib.Core.Path.{_≡_};
@@ -15,8 +18,8 @@ fn place_for(z: &[u8], e: &[u8]) -> usize
     requires { ⌜ length (now e) ≡ 374 ⌝ }
     ensures { λ r. ⌜ r ≡ placeIn (now (z .entry)) (nameOf (entryIn (now (e .entry)) .name)) ⌝ }
 {
-    let end = 1 + (e[256] as usize);
-    named::place_of(z, &e[1..end])
+    let end = NAME + (e[NAME_LENGTH] as usize);
+    named::place_of(z, &e[NAME..end])
 }
 
 // Whether what stands at a place of one zone stands at its name in another.
@@ -24,8 +27,8 @@ fn stands(left: &[u8], place: usize, right: &[u8]) -> bool
     requires { ⌜ (length (now left) ≡ 23936) × (place < 64) ⌝ }
     ensures { λ r. ⌜ r ≡ standsIn (now (right .entry)) (entryIn (rowAt (now (left .entry)) place)) ⌝ }
 {
-    let at = place * 374;
-    let end = at + 374;
+    let at = place * PLACE_SIZE;
+    let end = at + PLACE_SIZE;
     let there = place_for(right, &left[at..end]);
     if 64 <= there {
         return false;
@@ -44,7 +47,7 @@ pub(crate) fn all_stand(left: &[u8], right: &[u8]) -> bool
     while i < 64 {
         let place = i;
         i += 1;
-        if left[place * 374] != 0 {
+        if left[place * PLACE_SIZE] != 0 {
             if !stands(left, place, right) {
                 return false;
             }

@@ -4,8 +4,9 @@ use Prim.Native.Nat.{ℕ}
 use lib.Dec.{eqb}
 use lib.ListN.{take}
 use Rattle.zone.proofs.FingerprintLaws.{prefix-length}
+use Rattle.lentzone.proofs.FormLaws.{survey-zone}
 use Rattle.zonefind.specs.Find.{findRefusal}
-use Rattle.zonefind.proofs.FindLaws.{form-seen, refusal-is, entry-is}
+use Rattle.zonefind.proofs.FindLaws.{refusal-is, entry-is}
 use borrow.Author.Needs.{needs}
 use Rattle.zonefind.proofs.locate.Statement.{statement}
 use Rattle.zonefind.proofs.locate.Tie as tie
@@ -39,7 +40,7 @@ returns c =
     let v = c .before .before .before .before .before .survey-in in
     let e : c .before .refusal .result ≡ findRefusal z n =
     c .before .refusal .ensures
-    ∙ refusal-is z n _ _ (c .before .before .before .before .both .ensures ∙ form-seen z n (v .result) (v .ensures)) (c .before .before .is-full-name .ensures) in
+    ∙ refusal-is z n _ _ (c .before .before .before .before .both .ensures ∙ survey-zone z n (v .result) (v .ensures)) (c .before .before .is-full-name .ensures) in
     record {
       refusalIs = e;
       entryIs = entry-is z n (v .result) (v .ensures) _ (c .choose .ensures ∙ ap (λ (k : ℕ). cond (eqb k 0) (v .result .found) 64) e);
