@@ -1,5 +1,5 @@
 -- The laws of the place of a name, looked for from the last place on. Assumes nothing.
-use mathlib.Core.Path.{_≡_, refl, sym, _∙_, ap}
+use mathlib.Core.Path.{_≡_, sym, _∙_, ap}
 use mathlib.Core.Bool.{Bool, true, false, cond}
 use mathlib.Core.List.{List, [], _∷_}
 use Prim.Native.Nat.{ℕ, zero, suc, _+_, _-_, _≤_, _<_}
@@ -8,7 +8,6 @@ use native.Mathlib.Omega.{arith}
 use lib.ListN.{length, getD, take}
 use lib.Seq.{take-all}
 use borrow.Author.Tests.{eq-eqb, ne-eqb}
-use Rattle.zone.specs.declared.entry.Entry.{Entry}
 use Rattle.zone.specs.Survey.{named, placeFrom}
 use Rattle.zone.proofs.SurveyLaws.{blank}
 use Rattle.lentzone.specs.Decode.{zoneIn}

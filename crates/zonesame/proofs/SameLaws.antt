@@ -4,7 +4,7 @@ use mathlib.Core.Path.{_≡_, refl, sym, _∙_, ap, subst}
 use mathlib.Core.Bool.{Bool, true, false, cond, _&&_, true≢false}
 use mathlib.Core.List.{List}
 use mathlib.Core.Option.{Option, none, some}
-use Prim.Native.Nat.{ℕ, _≤_}
+use Prim.Native.Nat.{ℕ}
 use native.Mathlib.Decide.{ℕ-discrete}
 use native.Mathlib.Omega.{arith}
 use lib.Dec.{eqb}
@@ -88,7 +88,7 @@ module _ (left right : List ℕ) where
   promise-17 : sameRefusal left right ≡ 17 → SamePromise left right (answer 17 0)
   promise-17 e = record {
     refusalIs = sym e;
-    oneOrNone = omega arith;
+    oneOrZero = omega arith;
     refused = λ n. refl;
     meansSame = λ (h : _≡_ {A = ℕ} 0 1). absurd (omega arith);
     saysSame = λ (h : sameRefusal left right ≡ 0) s. absurd (omega arith);
@@ -104,10 +104,10 @@ module _ (left right : List ℕ) where
       none = unfold sameRefusal in rw h
 
       go : (c : Bool) → Tells (Same left right) c → SamePromise left right (answer 0 (cond c 1 0))
-      go true u = record { refusalIs = sym none; oneOrNone = omega arith; refused = λ m. absurd (m none); meansSame = λ k. u .told refl; saysSame = λ k s. refl }
+      go true u = record { refusalIs = sym none; oneOrZero = omega arith; refused = λ m. absurd (m none); meansSame = λ k. u .told refl; saysSame = λ k s. refl }
       go false u = record {
         refusalIs = sym none;
-        oneOrNone = omega arith;
+        oneOrZero = omega arith;
         refused = λ m. refl;
         meansSame = λ (k : _≡_ {A = ℕ} 0 1). absurd (omega arith);
         saysSame = λ k s. absurd (true≢false (sym (u .tells s)));
@@ -127,4 +127,4 @@ module _ (left right : List ℕ) where
           on : Dec (r .same ≡ 1) → Dec (s .same ≡ 1) → r .same ≡ s .same
           on (yes h) k = h ∙ sym (b .saysSame z (a .meansSame h))
           on (no h) (yes k) = absurd (h (a .saysSame z (b .meansSame k)))
-          on (no h) (no k) = let m = a .oneOrNone in let n = b .oneOrNone in omega arith
+          on (no h) (no k) = let m = a .oneOrZero in let n = b .oneOrZero in omega arith

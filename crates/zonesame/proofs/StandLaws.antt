@@ -1,11 +1,10 @@
 -- The laws of a walk over the places of one zone that looks for all that stands there in another. Assumes nothing.
-use mathlib.Core.Path.{_≡_, refl, sym, _∙_, ap, subst}
+use mathlib.Core.Path.{_≡_, refl, sym, _∙_, ap}
 use mathlib.Core.Bool.{Bool, true, false, cond, _&&_, true≢false}
 use mathlib.Core.List.{List, [], _∷_}
-use mathlib.Core.Option.{Option, none, some}
+use mathlib.Core.Option.{Option, some}
 use Prim.Native.Nat.{ℕ, _+_, _≤_, _<_}
 use native.Mathlib.Numerals.{add-one}
-use native.Mathlib.Omega.{arith}
 use lib.Dec.{ltb}
 use lib.ListN.{length, getD, drop, drop-of-length-le}
 use lib.Seq.{drop-cons}
@@ -13,7 +12,6 @@ use borrow.Author.Tests.{eq-eqb, ltb-true, lt-ltb, le-ltb}
 use borrow.Table.Steps.{cases}
 use Rattle.octets.proofs.BoolLaws.{and-both, and-left, and-right}
 use Rattle.octets.proofs.CompareLaws.{same-self, same-true}
-use Rattle.octets.proofs.CountLaws.{same-dec, same-no}
 use Rattle.octets.specs.Compare.{sameOctets}
 use Rattle.octets.specs.Count.{Octets, member, distinct}
 use Rattle.dname.specs.Name.{key, nameOf}

@@ -15,7 +15,7 @@ sameRefusal left right = cond (isZone left && isZone right) 0 17
 -- name's DHCID, or the order of addresses. The answer is 1 exactly then, and else 0; beside a refusal it is 0.
 pub record SamePromise (left right : List ℕ) (r : SameAnswer) : Type 0 where
   pub refusalIs : r .refusal ≡ sameRefusal left right
-  pub oneOrNone : r .same ≤ 1
+  pub oneOrZero : r .same ≤ 1
   pub refused : ¬ (sameRefusal left right ≡ 0) → r .same ≡ 0
   pub meansSame : r .same ≡ 1 → zoneOf (zoneIn left) ≡ zoneOf (zoneIn right)
   pub saysSame : sameRefusal left right ≡ 0 → zoneOf (zoneIn left) ≡ zoneOf (zoneIn right) → r .same ≡ 1

@@ -1,7 +1,6 @@
-use mathlib.Core.Path.{_≡_, sym, _∙_, ap}
-use Prim.Native.Nat.{_-_, _<_}
+use mathlib.Core.Path.{sym, _∙_, ap}
+use Prim.Native.Nat.{_-_}
 use native.Mathlib.Omega.{arith}
-use borrow.Author.Needs.{needs}
 use Rattle.zone.specs.Survey.{named}
 use Rattle.lentzone.proofs.DecodeLaws.{zone-part}
 use Rattle.lentzone.proofs.NamedLaws.{Left, left-start, left-hit, left-miss, left-end, place-no-zone}
