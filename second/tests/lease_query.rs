@@ -22,7 +22,7 @@ const QUERIES: usize = 400_000;
 /// Cases of each kind, at the least.
 const EACH: usize = 1_000;
 /// The stack of a thread on which the calls must run.
-const SMALL_STACK: usize = 64 * 1024;
+const SMALL_STACK: usize = 16 * 1024;
 /// Refusals in the order in which they are given.
 const ORDER: [u8; 10] = [15, 9, 8, 1, 2, 3, 4, 5, 6, 7];
 
