@@ -1,16 +1,18 @@
--- The laws of the place of a name, looked for from the last place on. Assumes nothing.
-use mathlib.Core.Path.{_≡_, sym, _∙_, ap}
+-- The laws of a name at a place, and of the place of a name, looked for from the last place on. Assumes nothing.
+use mathlib.Core.Path.{_≡_, refl, sym, _∙_, ap}
 use mathlib.Core.Bool.{Bool, true, false, cond}
 use mathlib.Core.List.{List, [], _∷_}
 use Prim.Native.Nat.{ℕ, zero, suc, _+_, _-_, _≤_, _<_}
 use native.Mathlib.Nat.{zero-add, add-zero}
 use native.Mathlib.Omega.{arith}
-use lib.ListN.{length, getD, take}
+use lib.ListN.{length, getD, take, replicate}
 use lib.Seq.{take-all}
 use borrow.Author.Tests.{eq-eqb, ne-eqb}
+use Rattle.zone.specs.declared.entry.Entry.{Entry}
+use Rattle.zone.specs.Meaning.{used}
 use Rattle.zone.specs.Survey.{named, placeFrom}
 use Rattle.zone.proofs.SurveyLaws.{blank}
-use Rattle.lentzone.specs.Decode.{zoneIn}
+use Rattle.lentzone.specs.Decode.{entryIn, zoneIn}
 use Rattle.lentzone.specs.Inner.{placeIn}
 use Rattle.lentzone.proofs.DecodeLaws.{zone-length}
 
@@ -59,3 +61,15 @@ module _ (z n : List ℕ) where
 pub place-no-zone : (z n : List ℕ) → ¬ (length z ≡ 23936) → 64 ≡ placeIn z n
 unfolding placeIn
 place-no-zone z n l = sym (rw (ne-eqb (length z) 23936 l))
+
+-- no name stands in a place of zeros
+named-free : (n e : List ℕ) → getD e 0 0 ≡ 0 → named n (entryIn e) ≡ false
+unfolding named used
+named-free n e h = rw (eq-eqb (getD e 0 0) 0 h)
+
+zeros : (k : ℕ) → getD {A = ℕ} (replicate k 0) 0 0 ≡ 0
+zeros zero = refl
+zeros (suc k) = refl
+
+pub named-zeros : (n e : List ℕ) → replicate {A = ℕ} 374 0 ≡ e → false ≡ named n (entryIn e)
+named-zeros n e z = sym (named-free n e (ap (λ (x : List ℕ). getD x 0 0) (sym z) ∙ zeros 374))

@@ -1,21 +1,22 @@
--- Two zones of which each has all that stands in the other are the same, and only those; and what the call's answers are made of. Assumes
--- nothing.
+-- Two zones with as many names, of which one has all that stands in the other, are the same, and only those; and what the call's answers
+-- are made of. Assumes nothing.
 use mathlib.Core.Path.{_≡_, refl, sym, _∙_, ap, subst}
 use mathlib.Core.Bool.{Bool, true, false, cond, _&&_, true≢false}
 use mathlib.Core.List.{List}
 use mathlib.Core.Option.{Option, none, some}
-use Prim.Native.Nat.{ℕ}
+use Prim.Native.Nat.{ℕ, _+_, _-_, _≤_}
 use native.Mathlib.Decide.{ℕ-discrete}
 use native.Mathlib.Omega.{arith}
-use lib.Dec.{eqb}
 use lib.ListN.{length}
-use borrow.Author.Tests.{eqb-true, eq-eqb, ne-eqb}
 use Rattle.octets.proofs.BoolLaws.{and-left, and-right}
-use Rattle.octets.specs.Count.{Octets, distinct}
+use Rattle.octets.proofs.CompareLaws.{same-true}
+use Rattle.octets.proofs.CountLaws.{one, counts-le, counts-mark}
+use Rattle.octets.specs.Compare.{sameOctets}
+use Rattle.octets.specs.Count.{Octets, Counts}
 use Rattle.zone.specs.declared.survey.Survey.{Survey}
-use Rattle.zone.specs.Meaning.{keys, allInOrder, formed}
+use Rattle.zone.specs.Meaning.{keys}
 use Rattle.update.specs.Rules as rules
-use Rattle.update.specs.Rules.{Host}
+use Rattle.update.specs.Rules.{Host, there}
 use Rattle.update.specs.Meaning.{zoneOf}
 use Rattle.update.proofs.ZoneLaws.{same-zone}
 use Rattle.lentzone.specs.Decode.{zoneIn, isZone}
@@ -33,6 +34,26 @@ module _ (z n : List ℕ) (s : Survey) (v : SurveyedIn z n s) where
 
   pub survey-rest : s .inorder ≡ true → s .distinct ≡ isZone z
   survey-rest h = sym (ap (λ (b : Bool). b && s .distinct) h) ∙ survey-zone z n s v
+
+-- ---- where all of one kind are of another and there are as many of each, there are no others
+
+counts-all : {n : ℕ} {p q : Octets → Bool} → Counts n p → Counts n q → ((a : Octets) → p a ≡ true → q a ≡ true) → (a : Octets) → q a ≡ true → p a ≡ true
+counts-all {n = n} {p = p} {q = q} c d s a h = go (p a) refl
+  where
+    within : (b : Octets) → cond (sameOctets a b) true (p b) ≡ true → q b ≡ true
+    within b = on (sameOctets a b) refl
+      where
+        on : (v : Bool) → sameOctets a b ≡ v → cond v true (p b) ≡ true → q b ≡ true
+        on true e t = ap q (sym (same-true a b e)) ∙ h
+        on false e t = s b t
+
+    go : (v : Bool) → p a ≡ v → v ≡ true
+    go true e = refl
+    go false e =
+        let m : Counts (n + 1 - one false) (λ b. cond (sameOctets a b) true (p b)) =
+        subst (λ (v : Bool). Counts (n + 1 - one v) (λ b. cond (sameOctets a b) true (p b))) e (counts-mark a true c) in
+        let l : n + 1 - 0 ≤ n = counts-le m d within in
+        absurd (omega arith)
 
 -- ---- one zone has all of the other
 
@@ -59,25 +80,55 @@ module _ (left right : List ℕ) (both : (isZone left && isZone right) ≡ true)
   p : isZone left ≡ true
   p = and-left (isZone left) (isZone right) both
 
-  q : isZone right ≡ true
-  q = and-right (isZone left) (isZone right) both
+  pub right-zone : isZone right ≡ true
+  right-zone = and-right (isZone left) (isZone right) both
 
   pub left-length : length left ≡ 23936
   left-length = zone-length left p
 
   pub right-length : length right ≡ 23936
-  right-length = zone-length right q
+  right-length = zone-length right right-zone
 
-  pub lacks : allStand right (zoneIn left .entries) ≡ false → Tells (Same left right) false
-  lacks h = record { told = λ e. absurd (true≢false (sym e)); tells = λ e. absurd (true≢false (sym (all-of left right p q e) ∙ h)) }
+  -- each name of the first stands in the second
+  among : allStand right (zoneIn left .entries) ≡ true → (k : Octets) → there (zoneOf (zoneIn left) .at k) ≡ true → there (zoneOf (zoneIn right) .at k) ≡ true
+  among t k = go (zoneOf (zoneIn left) .at k) refl
+    where
+      go : (x : Option Host) → zoneOf (zoneIn left) .at k ≡ x → there x ≡ true → there (zoneOf (zoneIn right) .at k) ≡ true
+      go none e h = absurd (true≢false (sym h))
+      go (some x) e h = ap there (has-all left right p right-zone t k x e)
 
-  pub both-ways : allStand right (zoneIn left .entries) ≡ true → (b : Bool) → b ≡ allStand left (zoneIn right .entries) → Tells (Same left right) b
-  both-ways h b k = record {
-    told = λ e.
-        same-zone (zoneOf (zoneIn left)) (zoneOf (zoneIn right)) (form-of (zoneIn left) (zone-form left p)) (form-of (zoneIn right) (zone-form right q))
-        (λ n. agree _ _ (has-all left right p q h n) (has-all right left q p (sym k ∙ e) n));
-    tells = λ e. k ∙ all-of right left q p (sym e);
-  }
+  module _ (m n : ℕ) (lefts : m ≡ length (keys (zoneIn left .entries))) (rights : n ≡ length (keys (zoneIn right .entries))) where
+    pub other-number : ¬ (m ≡ n) → Tells (Same left right) false
+    unfolding zoneOf
+    other-number d = record {
+      told = λ e. absurd (true≢false (sym e));
+      tells = λ e. absurd (d (lefts ∙ ap (λ (x : rules.Zone). x .size) e ∙ sym rights));
+    }
+
+    pub as-many : m ≡ n → (b : Bool) → b ≡ allStand right (zoneIn left .entries) → Tells (Same left right) b
+    as-many e b k = record {
+      told = λ t.
+          same-zone (zoneOf (zoneIn left)) (zoneOf (zoneIn right)) (form-of (zoneIn left) (zone-form left p)) (form-of (zoneIn right) (zone-form right right-zone))
+          (λ a. agree _ _ (has-all left right p right-zone (sym k ∙ t) a) (back (sym k ∙ t) a));
+      tells = λ s. k ∙ all-of left right p right-zone s;
+    }
+      where
+        size : zoneOf (zoneIn right) .size ≡ zoneOf (zoneIn left) .size
+        size = unfold zoneOf in sym rights ∙ sym e ∙ lefts
+
+        -- each name of the second stands in the first: there are no more of them
+        all : allStand right (zoneIn left .entries) ≡ true → (a : Octets) → there (zoneOf (zoneIn right) .at a) ≡ true → there (zoneOf (zoneIn left) .at a) ≡ true
+        all t =
+            counts-all (form-of (zoneIn left) (zone-form left p) .names)
+            (subst (λ (s : ℕ). Counts s (λ a. there (zoneOf (zoneIn right) .at a))) size (form-of (zoneIn right) (zone-form right right-zone) .names))
+            (among t)
+
+        back : allStand right (zoneIn left .entries) ≡ true → (a : Octets) (h : Host) → zoneOf (zoneIn right) .at a ≡ some h → zoneOf (zoneIn left) .at a ≡ some h
+        back t a h r = go (zoneOf (zoneIn left) .at a) refl (all t a (ap there r))
+          where
+            go : (x : Option Host) → zoneOf (zoneIn left) .at a ≡ x → there x ≡ true → zoneOf (zoneIn left) .at a ≡ some h
+            go none s u = absurd (true≢false (sym u))
+            go (some x) s u = s ∙ sym (has-all left right p right-zone t a x s) ∙ r
 
 -- ---- the promise
 

@@ -64,6 +64,21 @@ pub stand-end : (z : List ℕ) (es : List Entry) (i : ℕ) → length es ≤ i �
 unfolding allStand
 stand-end z es i h = rw (drop-of-length-le es h)
 
+-- ---- the names counted
+
+module _ (es : List Entry) (d : Entry) (i : ℕ) (h : i < length es) where
+  pub count-used : used (getD es i d) ≡ true → length (keys (drop i es)) ≡ 1 + length (keys (drop (i + 1) es))
+  unfolding keys
+  count-used u = rw (add-one, drop-cons es i d h, u) (omega arith)
+
+  pub count-free : used (getD es i d) ≡ false → length (keys (drop i es)) ≡ length (keys (drop (i + 1) es))
+  unfolding keys
+  count-free u = rw (add-one, drop-cons es i d h, u)
+
+pub count-end : (es : List Entry) (i : ℕ) → length es ≤ i → length (keys (drop i es)) ≡ 0
+unfolding keys
+count-end es i h = rw (drop-of-length-le es h)
+
 -- ---- what it means, in a zone of good form
 
 module _ (z : List ℕ) (l : length z ≡ 23936) (g : formed (zoneIn z) ≡ true) where

@@ -1,5 +1,6 @@
 // Whether two zones are the same: the same names, owners and address sets, at whichever places. Both
 // are lent, 23,936 octets each in the layout of the C struct, and only read.
+mod count;
 mod host;
 mod stand;
 
@@ -40,15 +41,18 @@ fn are_zones(left: &[u8], right: &[u8]) -> bool
     is_zone(right)
 }
 
-// Whether each zone has all that stands in the other.
+// Whether there are as many names in one zone as in the other, and all that stands in the first stands
+// in the second. No name stands in a zone twice, so the second has then nothing else.
 fn is_same(left: &[u8], right: &[u8]) -> bool
     requires { ⌜ (isZone (now left) && isZone (now right)) ≡ true ⌝ }
     ensures { λ r. ⌜ Tells (zoneOf (zoneIn (now (left .entry))) ≡ zoneOf (zoneIn (now (right .entry)))) r ⌝ }
 {
-    if !stand::all_stand(left, right) {
+    let names = count::names_in(left);
+    let others = count::names_in(right);
+    if names != others {
         return false;
     }
-    stand::all_stand(right, left)
+    stand::all_stand(left, right)
 }
 
 fn as_number(b: bool) -> u32

@@ -6,30 +6,36 @@ use lentzone::layout::PLACE_SIZE;
 use lentzone::named;
 use lentzone::place;
 ghost use mathlib.Core.Path.{_≡_};
+ghost use mathlib.Core.Bool.{true};
 ghost use Prim.Native.Nat.{_<_};
 ghost use lib.ListN.{length};
 ghost use Rattle.dname.specs.Name.{nameOf};
-ghost use Rattle.lentzone.specs.Decode.{entryIn, zoneIn};
+ghost use Rattle.lentzone.specs.Decode.{entryIn, zoneIn, isZone};
 ghost use Rattle.lentzone.specs.Inner.{placeIn, rowAt};
 ghost use Rattle.zonesame.specs.Inner.{standsIn, allStand};
 
-// The place in a zone of the name that stands in the 374 octets of a place.
-fn place_for(z: &[u8], e: &[u8]) -> usize
-    requires { ⌜ length (now e) ≡ 374 ⌝ }
+// The place in a zone of the name that stands in the 374 octets of another zone's place. It is looked
+// for at the place of that number first: no name stands in a zone twice.
+fn place_for(z: &[u8], e: &[u8], place: usize) -> usize
+    requires { ⌜ (isZone (now z) ≡ true) × (length (now e) ≡ 374) × (place < 64) ⌝ }
     ensures { λ r. ⌜ r ≡ placeIn (now (z .entry)) (nameOf (entryIn (now (e .entry)) .name)) ⌝ }
 {
     let end = NAME + (e[NAME_LENGTH] as usize);
-    named::place_of(z, &e[NAME..end])
+    let n = &e[NAME..end];
+    if named::is_at(z, n, place) {
+        return place;
+    }
+    named::place_of(z, n)
 }
 
 // Whether what stands at a place of one zone stands at its name in another.
 fn stands(left: &[u8], place: usize, right: &[u8]) -> bool
-    requires { ⌜ (length (now left) ≡ 23936) × (place < 64) ⌝ }
+    requires { ⌜ (length (now left) ≡ 23936) × (isZone (now right) ≡ true) × (place < 64) ⌝ }
     ensures { λ r. ⌜ r ≡ standsIn (now (right .entry)) (entryIn (rowAt (now (left .entry)) place)) ⌝ }
 {
     let at = place * PLACE_SIZE;
     let end = at + PLACE_SIZE;
-    let there = place_for(right, &left[at..end]);
+    let there = place_for(right, &left[at..end], place);
     if 64 <= there {
         return false;
     }
@@ -40,7 +46,7 @@ fn stands(left: &[u8], place: usize, right: &[u8]) -> bool
 
 // Whether that is so at every used place.
 pub(crate) fn all_stand(left: &[u8], right: &[u8]) -> bool
-    requires { ⌜ length (now left) ≡ 23936 ⌝ }
+    requires { ⌜ (length (now left) ≡ 23936) × (isZone (now right) ≡ true) ⌝ }
     ensures { λ r. ⌜ r ≡ allStand (now (right .entry)) (zoneIn (now (left .entry)) .entries) ⌝ }
 {
     let mut i: usize = 0;

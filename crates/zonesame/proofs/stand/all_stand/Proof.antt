@@ -32,7 +32,7 @@ shared-slice-read-if1 : tie.Need-shared-slice-read-if1 Inv-loop μ-loop
 shared-slice-read-if1 c = omega arith
 
 stands-requires : tie.Need-stands-requires Inv-loop μ-loop
-stands-requires c κs = (search needs, omega arith)
+stands-requires c κs = (search needs, c .before .before .before .before .before .before .pre .1, omega arith)
 
 returns : tie.Need-returns Inv-loop μ-loop
 returns c =

@@ -1,10 +1,14 @@
-use mathlib.Core.Path.{_∙_, ap}
-use Prim.Native.Nat.{_≤_}
+use mathlib.Core.List.{List}
+use mathlib.Core.Path.{sym, _∙_, ap}
+use Prim.Native.Nat.{ℕ, _≤_}
 use native.Mathlib.Omega.{arith}
 use lib.ListN.{getD}
 use borrow.Author.Needs.{needs}
-use Rattle.lentzone.specs.Inner.{placeIn}
+use Rattle.zone.specs.Survey.{named}
+use Rattle.lentzone.specs.Decode.{entryIn}
+use Rattle.lentzone.specs.Inner.{placeIn, rowAt}
 use Rattle.lentzone.proofs.DecodeLaws.{name-part}
+use Rattle.zonesame.proofs.SearchLaws.{only-place}
 use Rattle.zonesame.proofs.stand.place_for.Statement.{statement}
 use Rattle.zonesame.proofs.stand.place_for.Tie as tie
 
@@ -14,14 +18,24 @@ cast-end c = omega (arith, c .shared-slice-known3 .given 256)
 add-end : tie.Need-add-end
 add-end c = omega (arith, c .shared-slice-known3 .given 256)
 
-part-place-of-end : tie.Need-part-place-of-end
-part-place-of-end c = omega (arith, c .shared-slice-known3 .given 256)
+part-n-end : tie.Need-part-n-end
+part-n-end c = omega (arith, c .shared-slice-known3 .given 256)
 
 returns : tie.Need-returns
 returns c =
-    let s = c .before .before .before .before .before .args in
-    let h : getD (s .e .now) 256 0 ≤ 255 = omega (arith, c .before .before .shared-slice-known3 .given 256) in
-    c .place-of .ensures ∙ ap (placeIn (s .z .now)) (name-part (s .e .now) _ h)
+    let b = c .before .before .before in
+    let s = b .before .before .before in
+    let h : getD (s .args .e .now) 256 0 ≤ 255 = omega (arith, b .shared-slice-known3 .given 256) in
+    let n = name-part (s .args .e .now) _ h in
+    only-place (s .args .z .now) _ (s .pre .0) (s .args .place) (s .pre .2)
+    (ap (λ (l : List ℕ). named l (entryIn (rowAt (s .args .z .now) (s .args .place)))) (sym n) ∙ sym (c .before .is-at .ensures) ∙ c .if1 .taken)
+
+returns-2 : tie.Need-returns-2
+returns-2 c =
+    let b = c .before .before .before .before in
+    let s = b .before .before .before in
+    let h : getD (s .args .e .now) 256 0 ≤ 255 = omega (arith, b .shared-slice-known3 .given 256) in
+    c .place-of .ensures ∙ ap (placeIn (s .args .z .now)) (name-part (s .args .e .now) _ h)
 
 pub place-for-spec : {M : Type 1} → statement M
 place-for-spec =
@@ -32,6 +46,8 @@ place-for-spec =
     add-end
     (λ c. search needs)
     (λ c. search needs)
-    part-place-of-end
+    part-n-end
     (λ c κs. search needs)
-    returns)
+    returns
+    (λ c κs. search needs)
+    returns-2)
