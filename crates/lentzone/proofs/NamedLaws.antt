@@ -8,7 +8,6 @@ use native.Mathlib.Omega.{arith}
 use lib.ListN.{length, getD, take, replicate}
 use lib.Seq.{take-all}
 use borrow.Author.Tests.{eq-eqb, ne-eqb}
-use Rattle.zone.specs.declared.entry.Entry.{Entry}
 use Rattle.zone.specs.Meaning.{used}
 use Rattle.zone.specs.Survey.{named, placeFrom}
 use Rattle.zone.proofs.SurveyLaws.{blank}

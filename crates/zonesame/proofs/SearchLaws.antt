@@ -2,25 +2,36 @@
 use mathlib.Core.Path.{_≡_, refl, sym, _∙_, ap}
 use mathlib.Core.Bool.{Bool, true, false, _&&_, true≢false}
 use mathlib.Core.List.{List, [], _∷_}
-use Prim.Native.Nat.{ℕ, zero, suc, _<_}
+use Prim.Native.Nat.{ℕ, zero, suc, _+_, _*_, _-_, _<_}
+use native.Mathlib.Decide.{ℕ-discrete}
 use native.Mathlib.Omega.{arith}
 use lib.Dec.{ltb}
-use lib.ListN.{length, getD}
+use lib.ListN.{length, getD, set, take, drop, length-set}
+use lib.Seq.{getD-set-same, getD-set-other}
 use borrow.Author.Tests.{eq-eqb, ltb-true, lt-ltb}
 use borrow.Table.Steps.{cases}
 use Rattle.octets.specs.Compare.{sameOctets}
 use Rattle.octets.specs.Count.{Octets}
-use Rattle.dname.specs.Name.{key, sameName}
+use Rattle.dname.specs.Name.{key, sameName, nameOf}
 use Rattle.zone.specs.declared.entry.Entry.{Entry}
 use Rattle.zone.specs.Meaning.{used, keyOf}
-use Rattle.zone.specs.Survey.{named, placeFrom}
+use Rattle.zone.specs.Survey.{fingerprintWords, named, placeFrom}
+use Rattle.zone.proofs.FingerprintLaws.{fingerprint-differ, fingerprint-key}
 use Rattle.zone.proofs.SurveyLaws.{blank}
 use Rattle.lentzone.specs.Decode.{entryIn, zoneIn, isZone}
-use Rattle.lentzone.specs.Inner.{placeIn, rowAt}
+use Rattle.lentzone.specs.Inner.{placeIn, rowAt, nameAt}
 use Rattle.lentzone.proofs.DecodeLaws as decode
 use Rattle.lentzone.proofs.FormLaws.{zone-length, zone-form}
-use Rattle.lentzone.proofs.PlaceLaws.{place-at}
+use Rattle.lentzone.proofs.PlaceLaws.{row-there, place-at}
 use Rattle.request.proofs.PlaceLaws.{Alone, None, alone-found, here-at, here-none, formed-names}
+use Rattle.zonesame.specs.Inner.{Fingerprints}
+
+-- ---- the octets of a place
+
+pub row-part : (z : List ℕ) (place : ℕ) → length z ≡ 23936 → place < 64 → take (place * 374 + 374 - place * 374) (drop (place * 374) z) ≡ rowAt z place
+row-part z place l h =
+    let k : place * 374 + 374 - place * 374 ≡ 374 = omega arith in
+    ap (λ (n : ℕ). take n (drop (place * 374) z)) k ∙ row-there z place l h
 
 -- ---- one place only
 
@@ -72,3 +83,40 @@ module _ (z n : List ℕ) (g : isZone z ≡ true) where
 
       nowhere : ¬ (r < 64) → ⊥
       nowhere k = true≢false (sym here ∙ none-at (named n) es blank place low (here-none (named n) blank es r found (decode.zone-length z) k))
+
+-- ---- fingerprints
+
+module _ (z : List ℕ) where
+  pub prints-none : (f : List ℕ) → length f ≡ 64 → Fingerprints z f 0
+  prints-none f l = record { size = l; each = λ place h. absurd (omega arith) }
+
+  module _ (f : List ℕ) (i : ℕ) (p : Fingerprints z f i) where
+    pub prints-free : used (entryIn (rowAt z i)) ≡ false → Fingerprints z f (i + 1)
+    prints-free u = record { size = p .size; each = λ place h t. go place h t (ℕ-discrete place i) }
+      where
+        go : (place : ℕ) → place < i + 1 → used (entryIn (rowAt z place)) ≡ true → Dec (place ≡ i) → getD f place 0 ≡ fingerprintWords (nameOf (nameAt z place))
+        go place h t (yes e) = absurd (true≢false (sym t ∙ ap (λ (k : ℕ). used (entryIn (rowAt z k))) e ∙ u))
+        go place h t (no n) = p .each place (omega arith) t
+
+    pub prints-used : i < 64 → (x : ℕ) → x ≡ fingerprintWords (nameOf (nameAt z i)) → Fingerprints z (set f i x) (i + 1)
+    prints-used b x q = record { size = length-set f i x ∙ p .size; each = λ place h t. go place h t (ℕ-discrete place i) }
+      where
+        low : i < length f
+        low = let l = p .size in omega arith
+
+        go : (place : ℕ) → place < i + 1 → used (entryIn (rowAt z place)) ≡ true → Dec (place ≡ i) → getD (set f i x) place 0 ≡ fingerprintWords (nameOf (nameAt z place))
+        go place h t (yes e) =
+            ap (λ (k : ℕ). getD (set f i x) k 0) e ∙ getD-set-same f i x 0 low ∙ q ∙ ap (λ (k : ℕ). fingerprintWords (nameOf (nameAt z k))) (sym e)
+        go place h t (no n) = getD-set-other f i place x 0 n ∙ p .each place (omega arith) t
+
+-- where the fingerprints differ, the name does not stand
+pub print-miss : (z f n : List ℕ) → Fingerprints z f 64 → (place : ℕ) → place < 64 → (own : ℕ) → own ≡ fingerprintWords n → ¬ (getD f place 0 ≡ own)
+    → named n (entryIn (rowAt z place)) ≡ false
+unfolding named
+print-miss z f n p place h own q d = go (used (entryIn (rowAt z place))) refl
+  where
+    go : (u : Bool) → used (entryIn (rowAt z place)) ≡ u → (u && sameName (nameOf (nameAt z place)) n) ≡ false
+    go false e = refl
+    go true e =
+        fingerprint-differ (nameOf (nameAt z place)) n
+        (λ k. d (p .each place h e ∙ fingerprint-key (nameOf (nameAt z place)) ∙ k ∙ sym (fingerprint-key n) ∙ sym q))

@@ -2,8 +2,9 @@
 use mathlib.Core.Path.{_≡_}
 use mathlib.Core.Bool.{Bool, true, false, cond, _&&_}
 use mathlib.Core.List.{List, [], _∷_}
-use Prim.Native.Nat.{ℕ}
+use Prim.Native.Nat.{ℕ, _<_}
 use lib.Dec.{eqb, ltb}
+use lib.ListN.{length, getD}
 use Rattle.octets.specs.Compare.{sameOctets}
 use Rattle.octets.specs.Count.{Octets}
 use Rattle.addresses.specs.Addresses.{list4, list6, within}
@@ -11,13 +12,21 @@ use Rattle.dname.specs.Name.{nameOf}
 use Rattle.zone.specs.declared.entry.Entry.{Entry}
 use Rattle.zone.specs.declared.entry.Records.{Records}
 use Rattle.zone.specs.Meaning.{used}
-use Rattle.zone.specs.Survey.{recordsOf}
-use Rattle.lentzone.specs.Inner.{placeIn, recordsAt}
+use Rattle.zone.specs.Survey.{fingerprintWords, recordsOf}
+use Rattle.lentzone.specs.Decode.{entryIn}
+use Rattle.lentzone.specs.Inner.{placeIn, rowAt, recordsAt, nameAt}
 
 -- a test tells whether a claim holds
 pub record Tells (claim : Type 0) (r : Bool) : Type 0 where
   pub told : r ≡ true → claim
   pub tells : claim → r ≡ true
+
+-- ---- the fingerprints of names
+
+-- the names of the first n places have theirs; at a free place any number stands
+pub record Fingerprints (z f : List ℕ) (n : ℕ) : Type 0 where
+  pub size : length f ≡ 64
+  pub each : (place : ℕ) → place < n → used (entryIn (rowAt z place)) ≡ true → getD f place 0 ≡ fingerprintWords (nameOf (nameAt z place))
 
 -- ---- what stands at two names
 

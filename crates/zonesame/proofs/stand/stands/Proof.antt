@@ -22,14 +22,14 @@ row left right place r l h e =
 
 returns : tie.Need-returns
 returns c =
-    let s = c .before .before .before .before .before .args in
+    let s = c .before .before .before .before .before .before .args in
     stands-nowhere (s .right .now) (entryIn (rowAt (s .left .now) (s .place)))
     _ (row (s .left .now) (s .right .now) (s .place) _ (search needs) (search needs) (c .before .place-for .ensures)) (c .if1 .taken)
 
 returns-2 : tie.Need-returns-2
 returns-2 c =
     let b = c .before .before .before in
-    let s = b .before .before .before .before .before .args in
+    let s = b .before .before .before .before .before .before .args in
     stands-there (s .right .now) (entryIn (rowAt (s .left .now) (s .place)))
     _ (row (s .left .now) (s .right .now) (s .place) _ (search needs) (search needs) (b .before .place-for .ensures)) (b .if1 .left)
     _ _ _ (c .before .before .records-at .ensures) (c .before .records-at2 .ensures) (c .is-same-host .ensures)
