@@ -7,7 +7,7 @@ use native.Mathlib.Nat.{zero-add, add-zero}
 use native.Mathlib.Omega.{arith}
 use lib.ListN.{length, getD, take, replicate}
 use lib.Seq.{take-all}
-use borrow.Author.Tests.{eq-eqb, ne-eqb}
+use borrow.Author.Tests.{eq-eqb}
 use Rattle.zone.specs.Meaning.{used}
 use Rattle.zone.specs.Survey.{named, placeFrom}
 use Rattle.zone.proofs.SurveyLaws.{blank}
@@ -56,10 +56,6 @@ module _ (z n : List ℕ) where
   pub left-end : (i : ℕ) → i ≤ 0 → Left i → 64 ≡ placeIn z n
   unfolding placeFrom
   left-end i h l = let e : i ≡ 0 = omega arith in sym (l .rest ∙ ap (λ (m : ℕ). placeFrom (named n) 0 64 (take m (zoneIn z .entries))) e)
-
-pub place-no-zone : (z n : List ℕ) → ¬ (length z ≡ 23936) → 64 ≡ placeIn z n
-unfolding placeIn
-place-no-zone z n l = sym (rw (ne-eqb (length z) 23936 l))
 
 -- no name stands in a place of zeros
 named-free : (n e : List ℕ) → getD e 0 0 ≡ 0 → named n (entryIn e) ≡ false

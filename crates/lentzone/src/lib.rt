@@ -1,5 +1,5 @@
-// The 64 places of a zone in lent octets, in the layout of the C struct: surveyed where they lie, the
-// place of a name found, and one place read or written.
+// The 64 places of a zone in lent octets, in the layout of the C struct: surveyed where they lie, one
+// place asked for a name, read or written.
 mod decode;
 mod encode;
 pub mod layout;

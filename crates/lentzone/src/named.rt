@@ -1,11 +1,11 @@
-// Whether a name stands at a place, and the place of a name.
+// Whether a name stands at a place.
 use crate::layout::PLACE_SIZE;
 use crate::layout::ZONE_SIZE;
 use crate::look;
 ghost use mathlib.Core.Path.{_≡_};
 ghost use Rattle.zone.specs.Survey.{named};
 ghost use Rattle.lentzone.specs.Decode.{entryIn};
-ghost use Rattle.lentzone.specs.Inner.{placeIn, rowAt};
+ghost use Rattle.lentzone.specs.Inner.{rowAt};
 
 // Whether the name stands at a place. Other than 23,936 octets hold no zone.
 pub fn is_at(z: &[u8], n: &[u8], place: usize) -> bool
@@ -20,24 +20,4 @@ pub fn is_at(z: &[u8], n: &[u8], place: usize) -> bool
     let at = place * PLACE_SIZE;
     let end = at + PLACE_SIZE;
     look::is_named(&z[at..end], n)
-}
-
-// The last place of the name, as in a survey; 64 where it is absent. Other than 23,936 octets hold no
-// zone.
-pub fn place_of(z: &[u8], n: &[u8]) -> usize
-    ensures { λ r. ⌜ r ≡ placeIn (now (z .entry)) (now (n .entry)) ⌝ }
-{
-    if z.len() != ZONE_SIZE {
-        return 64;
-    }
-    let mut i: usize = 64;
-    while 0 < i {
-        i -= 1;
-        let at = i * PLACE_SIZE;
-        let end = at + PLACE_SIZE;
-        if look::is_named(&z[at..end], n) {
-            return i;
-        }
-    }
-    64
 }

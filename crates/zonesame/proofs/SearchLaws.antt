@@ -6,8 +6,8 @@ use Prim.Native.Nat.{ℕ, zero, suc, _+_, _*_, _-_, _<_}
 use native.Mathlib.Decide.{ℕ-discrete}
 use native.Mathlib.Omega.{arith}
 use lib.Dec.{ltb}
-use lib.ListN.{length, getD, set, take, drop, length-set}
-use lib.Seq.{getD-set-same, getD-set-other}
+use lib.ListN.{length, getD, set, take, drop, length-drop, length-set}
+use lib.Seq.{length-take-le, getD-set-same, getD-set-other}
 use borrow.Author.Tests.{eq-eqb, ltb-true, lt-ltb}
 use borrow.Table.Steps.{cases}
 use Rattle.octets.specs.Compare.{sameOctets}
@@ -32,6 +32,11 @@ pub row-part : (z : List ℕ) (place : ℕ) → length z ≡ 23936 → place < 6
 row-part z place l h =
     let k : place * 374 + 374 - place * 374 ≡ 374 = omega arith in
     ap (λ (n : ℕ). take n (drop (place * 374) z)) k ∙ row-there z place l h
+
+pub row-length : (z : List ℕ) (place : ℕ) → length z ≡ 23936 → place < 64 → length (rowAt z place) ≡ 374
+row-length z place l h =
+    let d : length (drop (place * 374) z) ≡ length z - place * 374 = length-drop (place * 374) z in
+    ap length (sym (row-there z place l h)) ∙ length-take-le 374 (drop (place * 374) z) (omega arith)
 
 -- ---- one place only
 

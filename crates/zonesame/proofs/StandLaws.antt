@@ -17,7 +17,6 @@ use Rattle.octets.specs.Compare.{sameOctets}
 use Rattle.octets.specs.Count.{Octets, member, distinct}
 use Rattle.dname.specs.Name.{key, nameOf}
 use Rattle.zone.specs.declared.entry.Entry.{Entry}
-use Rattle.zone.specs.declared.entry.Records.{Records}
 use Rattle.zone.specs.Meaning.{used, keyOf, keys, inOrder, allInOrder, formed}
 use Rattle.zone.specs.Survey.{recordsOf, named, placeFrom}
 use Rattle.zone.proofs.SurveyLaws.{blank}
@@ -38,9 +37,9 @@ module _ (z : List ℕ) (e : Entry) (at : ℕ) (q : at ≡ placeIn z (nameOf (e 
   unfolding standsIn
   stands-nowhere h = sym (rw (sym q, le-ltb at 64 h))
 
-  pub stands-there : at < 64 → (a b : Records) (r : Bool) → a ≡ recordsOf e → b ≡ recordsAt z at → r ≡ sameHost a b → r ≡ standsIn z e
+  pub stands-there : at < 64 → (r : Bool) → r ≡ sameHost (recordsOf e) (recordsAt z at) → r ≡ standsIn z e
   unfolding standsIn
-  stands-there h a b r f g s = s ∙ rw (f, g) (sym (rw (sym q, lt-ltb at 64 h)))
+  stands-there h r s = s ∙ sym (rw (sym q, lt-ltb at 64 h))
 
 -- ---- the walk
 

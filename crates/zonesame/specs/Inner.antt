@@ -13,7 +13,7 @@ use Rattle.zone.specs.declared.entry.Entry.{Entry}
 use Rattle.zone.specs.declared.entry.Records.{Records}
 use Rattle.zone.specs.Meaning.{used}
 use Rattle.zone.specs.Survey.{fingerprintWords, recordsOf}
-use Rattle.lentzone.specs.Decode.{entryIn}
+use Rattle.lentzone.specs.Decode.{part, entryIn}
 use Rattle.lentzone.specs.Inner.{placeIn, rowAt, recordsAt, nameAt}
 
 -- a test tells whether a claim holds
@@ -39,6 +39,10 @@ sameLists l m = within l m && within m l
 
 unfoldable pub sameHost : Records → Records → Bool
 sameHost a b = sameOwner a b && (sameLists (list4 (a .v4)) (list4 (b .v4)) && sameLists (list6 (a .v6)) (list6 (b .v6)))
+
+-- two places of 374 octets have the same kind, and the same octets behind the name
+unfoldable pub samePlace : List ℕ → List ℕ → Bool
+samePlace a b = eqb (getD a 0 0) (getD b 0 0) && sameOctets (part 257 117 a) (part 257 117 b)
 
 -- ---- all that stands in a zone
 

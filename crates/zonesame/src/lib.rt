@@ -2,6 +2,7 @@
 // are lent, 23,936 octets each in the layout of the C struct, and only read.
 mod count;
 mod host;
+mod places;
 mod search;
 mod stand;
 

@@ -1,11 +1,10 @@
 // Whether all that stands in one zone stands in another.
-use crate::host;
+use crate::places;
 use crate::search;
 use lentzone::layout::NAME;
 use lentzone::layout::NAME_LENGTH;
 use lentzone::layout::PLACE_SIZE;
 use lentzone::named;
-use lentzone::place;
 ghost use mathlib.Core.Path.{_≡_};
 ghost use mathlib.Core.Bool.{true};
 ghost use Prim.Native.Nat.{_<_};
@@ -40,9 +39,7 @@ fn stands(left: &[u8], place: usize, right: &[u8], fingerprints: &[u32]) -> bool
     if 64 <= there {
         return false;
     }
-    let a = place::records_at(left, place);
-    let b = place::records_at(right, there);
-    host::is_same_host(a, b)
+    places::is_same_at(left, place, right, there)
 }
 
 // Whether that is so at every used place.
