@@ -14,9 +14,9 @@ use Rattle.zone.specs.Meaning.{keys, allInOrder, formed}
 use Rattle.lentzone.specs.Decode.{zoneIn, isZone}
 use Rattle.lentzone.specs.Inner.{SurveyedIn}
 
-pub zone-length : (z : List ℕ) → isZone z ≡ true → length z ≡ 23936
+pub zone-octets : (z : List ℕ) → isZone z ≡ true → length z ≡ 23936
 unfolding isZone
-zone-length z h = eqb-true (length z) 23936 (and-left (eqb (length z) 23936) (formed (zoneIn z)) h)
+zone-octets z h = eqb-true (length z) 23936 (and-left (eqb (length z) 23936) (formed (zoneIn z)) h)
 
 pub zone-form : (z : List ℕ) → isZone z ≡ true → formed (zoneIn z) ≡ true
 unfolding isZone

@@ -22,7 +22,7 @@ use Rattle.zone.proofs.SurveyLaws.{blank}
 use Rattle.update.specs.Meaning.{hostOf, look, zoneOf}
 use Rattle.lentzone.specs.Decode.{entryIn, zoneIn, isZone}
 use Rattle.lentzone.specs.Inner.{SurveyedIn, rowAt}
-use Rattle.lentzone.proofs.FormLaws.{zone-length, zone-form}
+use Rattle.lentzone.proofs.FormLaws.{zone-octets, zone-form}
 use Rattle.lentzone.proofs.PlaceLaws.{row-no-place, place-at}
 use Rattle.request.proofs.PlaceLaws.{Alone, None, here-at, here-none, alone-found, formed-places, formed-names}
 use Rattle.zonefind.specs.Find.{findRefusal, freePlace, placeWith, findEntry, standing, SaysWhatStands}
@@ -62,7 +62,7 @@ module _ (z : List ℕ) (n : Octets) (s : Survey) (v : SurveyedIn z n s) where
   -- the place found has the name's key, and where none is found none has it
   module _ (f : isZone z ≡ true) where
     size : length z ≡ 23936
-    size = zone-length z f
+    size = zone-octets z f
 
     form : formed (zoneIn z) ≡ true
     form = zone-form z f

@@ -21,7 +21,7 @@ use Rattle.update.specs.Meaning.{zoneOf}
 use Rattle.update.proofs.ZoneLaws.{same-zone}
 use Rattle.lentzone.specs.Decode.{zoneIn, isZone}
 use Rattle.lentzone.specs.Inner.{SurveyedIn}
-use Rattle.lentzone.proofs.FormLaws.{zone-length, zone-form, survey-zone}
+use Rattle.lentzone.proofs.FormLaws.{zone-octets, zone-form, survey-zone}
 use Rattle.request.proofs.PlaceLaws.{formed-order, formed-names, form-of}
 use Rattle.zonesame.specs.declared.SameAnswer.{SameAnswer}
 use Rattle.zonesame.specs.Same.{sameRefusal, SamePromise}
@@ -60,11 +60,11 @@ counts-all {n = n} {p = p} {q = q} c d s a h = go (p a) refl
 module _ (left right : List ℕ) (p : isZone left ≡ true) (q : isZone right ≡ true) where
   has-all : allStand right (zoneIn left .entries) ≡ true → (k : Octets) (h : Host) → zoneOf (zoneIn left) .at k ≡ some h → zoneOf (zoneIn right) .at k ≡ some h
   has-all t k h e =
-      all-told right (zone-length right q) (zone-form right q) (zoneIn left .entries) (formed-order (zoneIn left) (zone-form left p)) t k h (unfold zoneOf in e)
+      all-told right (zone-octets right q) (zone-form right q) (zoneIn left .entries) (formed-order (zoneIn left) (zone-form left p)) t k h (unfold zoneOf in e)
 
   all-of : zoneOf (zoneIn left) ≡ zoneOf (zoneIn right) → allStand right (zoneIn left .entries) ≡ true
   all-of e =
-      all-tell right (zone-length right q) (zone-form right q) (zoneIn left .entries) (formed-order (zoneIn left) (zone-form left p)) (formed-names (zoneIn left) (zone-form left p))
+      all-tell right (zone-octets right q) (zone-form right q) (zoneIn left .entries) (formed-order (zoneIn left) (zone-form left p)) (formed-names (zoneIn left) (zone-form left p))
       (λ k h s. ap (λ (x : rules.Zone). x .at k) (sym e) ∙ (unfold zoneOf in s))
 
 -- where each has what the other has, they agree everywhere
@@ -84,10 +84,10 @@ module _ (left right : List ℕ) (both : (isZone left && isZone right) ≡ true)
   right-zone = and-right (isZone left) (isZone right) both
 
   pub left-length : length left ≡ 23936
-  left-length = zone-length left p
+  left-length = zone-octets left p
 
   pub right-length : length right ≡ 23936
-  right-length = zone-length right right-zone
+  right-length = zone-octets right right-zone
 
   -- each name of the first stands in the second
   among : allStand right (zoneIn left .entries) ≡ true → (k : Octets) → there (zoneOf (zoneIn left) .at k) ≡ true → there (zoneOf (zoneIn right) .at k) ≡ true

@@ -21,7 +21,7 @@ use Rattle.zone.proofs.SurveyLaws.{blank}
 use Rattle.lentzone.specs.Decode.{entryIn, zoneIn, isZone}
 use Rattle.lentzone.specs.Inner.{placeIn, rowAt, nameAt}
 use Rattle.lentzone.proofs.DecodeLaws as decode
-use Rattle.lentzone.proofs.FormLaws.{zone-length, zone-form}
+use Rattle.lentzone.proofs.FormLaws.{zone-octets, zone-form}
 use Rattle.lentzone.proofs.PlaceLaws.{row-there, place-at}
 use Rattle.request.proofs.PlaceLaws.{Alone, None, alone-found, here-at, here-none, formed-names}
 use Rattle.zonesame.specs.Inner.{Fingerprints}
@@ -64,7 +64,7 @@ module _ (z n : List ℕ) (g : isZone z ≡ true) where
 
   found : r ≡ placeFrom (named n) 0 64 es
   unfolding placeIn
-  found = rw (eq-eqb (length z) 23936 (zone-length z g))
+  found = rw (eq-eqb (length z) 23936 (zone-octets z g))
 
   -- a place where the name stands is its place
   pub only-place : (place : ℕ) → place < 64 → named n (entryIn (rowAt z place)) ≡ true → place ≡ placeIn z n
@@ -74,7 +74,7 @@ module _ (z n : List ℕ) (g : isZone z ≡ true) where
       low = omega (arith, decode.zone-length z)
 
       here : named n (getD es place blank) ≡ true
-      here = ap (named n) (sym (place-at z place (zone-length z g) h blank)) ∙ t
+      here = ap (named n) (sym (place-at z place (zone-octets z g) h blank)) ∙ t
 
       hit : Hit es (key n) place
       hit = unfold named sameName in here

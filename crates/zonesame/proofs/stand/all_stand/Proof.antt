@@ -21,7 +21,7 @@ abbrev μ-loop : tie.MeasureT-loop
 μ-loop left right fingerprints i₀ i = 64 - i
 
 fingerprints-in-requires : tie.Need-fingerprints-in-requires Inv-loop μ-loop
-fingerprints-in-requires c κs = form.zone-length _ (c .before .before .pre .1)
+fingerprints-in-requires c κs = form.zone-octets _ (c .before .before .pre .1)
 
 loop-holds : tie.Need-loop-holds Inv-loop μ-loop
 loop-holds c = (omega arith, refl)

@@ -8,7 +8,7 @@ use Rattle.zone.specs.Survey.{named}
 use Rattle.lentzone.specs.Decode.{entryIn}
 use Rattle.lentzone.specs.Inner.{placeIn, rowAt}
 use Rattle.lentzone.proofs.DecodeLaws.{name-part}
-use Rattle.lentzone.proofs.FormLaws.{zone-length}
+use Rattle.lentzone.proofs.FormLaws.{zone-octets}
 use Rattle.zonesame.proofs.SearchLaws.{only-place}
 use Rattle.zonesame.proofs.stand.place_for.Statement.{statement}
 use Rattle.zonesame.proofs.stand.place_for.Tie as tie
@@ -32,7 +32,7 @@ returns c =
     (ap (λ (l : List ℕ). named l (entryIn (rowAt (s .args .z .now) (s .args .place)))) (sym n) ∙ sym (c .before .is-at .ensures) ∙ c .if1 .taken)
 
 place-of-requires : tie.Need-place-of-requires
-place-of-requires c κs = let s = c .before .before .before .before .before .before .before in (zone-length _ (s .pre .0), s .pre .1)
+place-of-requires c κs = let s = c .before .before .before .before .before .before .before in (zone-octets _ (s .pre .0), s .pre .1)
 
 returns-2 : tie.Need-returns-2
 returns-2 c =

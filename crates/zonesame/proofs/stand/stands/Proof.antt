@@ -7,7 +7,7 @@ use borrow.Author.Needs.{needs}
 use Rattle.dname.specs.Name.{nameOf}
 use Rattle.lentzone.specs.Decode.{entryIn}
 use Rattle.lentzone.specs.Inner.{placeIn, rowAt}
-use Rattle.lentzone.proofs.FormLaws.{zone-length}
+use Rattle.lentzone.proofs.FormLaws.{zone-octets}
 use Rattle.zonesame.proofs.SearchLaws.{row-part}
 use Rattle.zonesame.proofs.StandLaws.{stands-nowhere, stands-there}
 use Rattle.zonesame.proofs.stand.stands.Statement.{statement}
@@ -27,7 +27,7 @@ returns c =
 is-same-at-requires : tie.Need-is-same-at-requires
 is-same-at-requires c κs =
     let s = c .before .before .before .before .before .before in
-    (s .pre .0, zone-length _ (s .pre .1), s .pre .3, omega arith)
+    (s .pre .0, zone-octets _ (s .pre .1), s .pre .3, omega arith)
 
 returns-2 : tie.Need-returns-2
 returns-2 c =
