@@ -89,8 +89,8 @@ static inline const char *jespurla_refusal_text(uint32_t refusal)
 #define JESPURLA_AREA_MAX 1500           /* a router's option area */
 #define JESPURLA_SERVERS_MAX 8           /* servers in the list */
 #define JESPURLA_OPTION_SERVERS_MAX 3    /* addresses of one option that count */
-#define JESPURLA_PACKET_MIN 240          /* a lease query */
-#define JESPURLA_PACKET_MAX 1500
+#define JESPURLA_PACKET_MIN 240          /* a lease query, at the least */
+#define JESPURLA_PACKET_MAX 1500         /* a lease query, at the most */
 #define JESPURLA_LEASE_REPLY_MIN 648     /* the buffer for a lease reply; no reply is longer */
 #define JESPURLA_LEASES_MAX 256          /* records in the lease table */
 #define JESPURLA_HARDWARE_MAX 16         /* a hardware address */
