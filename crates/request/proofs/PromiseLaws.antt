@@ -92,7 +92,7 @@ module _ (z : Zone) (n : Octets) (family policy : ℕ) where
 
 -- ---- from a survey
 
-pub formed-is : (z : Zone) (inorder names : Bool) → length (z .entries) ≡ 64 → inorder ≡ allInOrder (z .entries) → names ≡ distinct (keys (z .entries))
+formed-is : (z : Zone) (inorder names : Bool) → length (z .entries) ≡ 64 → inorder ≡ allInOrder (z .entries) → names ≡ distinct (keys (z .entries))
     → formed z ≡ (inorder && names)
 unfolding formed
 formed-is z inorder names l p q = rw (eq-eqb (length (z .entries)) 64 l, p, q)
