@@ -16,7 +16,7 @@ risesFrom address (x ∷ xs) = ltb address (x .address) && wellFormed x && rises
 abbrev pub countFits : ℕ → Bool
 countFits count = leb count 256
 
--- The table keeps its form: so many records, addresses not zero and strictly rising. If not, that is refusal 9.
+-- The table keeps its form: no more records than that, addresses not zero and strictly rising. If not, that is refusal 9.
 unfoldable pub tableFits : List Lease → Bool
 tableFits t = countFits (length t) && risesFrom 0 t
 

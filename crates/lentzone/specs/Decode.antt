@@ -44,7 +44,8 @@ rows width (suc n) s = take width s ∷ rows width n (drop width s)
 unfoldable pub zoneIn : List ℕ → Zone
 zoneIn s = record { entries = map entryIn (rows 374 64 s) }
 
--- Octets that hold a zone of good form: 23,936 of them, and the form of "Zone, requests and jobs". Anything else is refusal 17.
+-- Octets that hold a zone of good form, as document 01, "Zone, requests and jobs", has it: 23,936 of them, and nothing in the zone that
+-- breaks the form. Anything else is refusal 17.
 unfoldable pub isZone : List ℕ → Bool
 isZone z = eqb (length z) 23936 && formed (zoneIn z)
 
