@@ -1,12 +1,14 @@
--- The flags that an answer sends, and the flag table as the code keeps it: octets, with 10 where it refuses.
-use mathlib.Core.Path.{_≡_, sym}
-use mathlib.Core.Bool.{cond}
-use mathlib.Core.List.{List, map}
-use Prim.Native.Nat.{ℕ, _+_, _*_, _%_, _≤_, min}
+-- The flags that an answer sends; and the steps of the code, which come to the table at all of its places.
+use mathlib.Core.Path.{_≡_, refl, sym, ap, _∙_}
+use mathlib.Core.Bool.{Bool, true, false, not, cond, _&&_, _||_, Bool·beq}
+use mathlib.Core.List.{List, [], _∷_, map}
+use Prim.Native.Nat.{ℕ, zero, suc, _+_, _*_, _/_, _%_, _<_, _≤_, min}
+use native.Mathlib.Nat.{zero-add}
 use native.Mathlib.Omega.{arith}
+use lib.Bits.{bitAnd, bitOr, and-mod, and-le-r}
 use lib.Dec.{eqb}
 use lib.ListN.{getD, List·getD-map}
-use borrow.Author.Tests.{eq-eqb, ne-eqb}
+use borrow.Author.Tests.{ne-eqb}
 use Rattle.fqdn.specs.Flags.{sent, R, honoured, flagTable, flagAnswer}
 use Rattle.fqdn.specs.declared.flags.FlagAnswer.{FlagAnswer}
 
@@ -25,33 +27,89 @@ flags-most flags s n =
     let f : getD allFlags place 0 ≡ flagAnswer flags s n .flags = List·getD-map flagsOf flagTable place (sent 0) in
     omega arith
 
--- The octet for an answer in the code's table, and the answer for an octet.
-abbrev octet : FlagAnswer → ℕ
-octet answer = cond (eqb (answer .refusal) 0) (answer .flags) 10
+-- The tests of the code: a bit of the client's is set; a number says that a bit may be honoured.
+abbrev pub isSet : ℕ → ℕ → Bool
+isSet flags bit = not (eqb (bitAnd flags bit) 0)
 
-abbrev told : ℕ → FlagAnswer
-told octet = cond (eqb octet 10) R (sent octet)
+abbrev pub may : ℕ → Bool
+may number = not (eqb number 0)
 
-abbrev pub octets : List ℕ
-octets = map octet flagTable
+-- The steps of the code, by what the client sets and what may be honoured: the refusal, N, S, O.
+abbrev pub isRefused : Bool → Bool → Bool → Bool
+isRefused clientS clientO clientN = clientO || clientN && clientS
 
--- No entry is larger: all are what they are cut off at 10.
-pub small : (place : ℕ) → getD octets place 0 ≤ 10
-small place =
-    let e : getD octets place 0 ≡ min (getD octets place 0) 10 = List·getD-map (λ x. min x 10) octets place 0 in
-    omega arith
+abbrev pub answerN : Bool → Bool → Bool
+answerN clientN mayN = clientN && mayN
 
--- The answer that an octet stands for is the table's, at every place.
-entry : (place : ℕ) → getD flagTable place (sent 0) ≡ told (getD octets place 0)
-entry place = List·getD-map told octets place 0
+abbrev pub answerS : Bool → Bool → Bool → Bool
+answerS n clientS mayS = not n && clientS && mayS
 
-module _ (flags a b s n : ℕ) (x : a ≡ honoured s) (y : b ≡ honoured n) where
-  answer : flagAnswer flags s n ≡ told (getD octets (flags % 8 + 8 * a + 16 * b) 0)
-  unfolding flagAnswer
-  answer = rw (sym x, sym y) (entry (flags % 8 + 8 * a + 16 * b))
+abbrev pub answerO : Bool → Bool → Bool
+answerO s clientS = not (Bool·beq s clientS)
 
-  pub refused : getD octets (flags % 8 + 8 * a + 16 * b) 0 ≡ 10 → R ≡ flagAnswer flags s n
-  refused h = rw (answer, eq-eqb _ _ h)
+abbrev pub withBits : Bool → Bool → Bool → FlagAnswer
+withBits s o n = sent (bitOr (bitOr (cond s 1 0) (cond o 2 0)) (cond n 4 0))
 
-  pub answered : ¬ (getD octets (flags % 8 + 8 * a + 16 * b) 0 ≡ 10) → sent (getD octets (flags % 8 + 8 * a + 16 * b) 0) ≡ flagAnswer flags s n
-  answered h = rw (answer, ne-eqb _ _ h)
+abbrev pub steps : Bool → Bool → Bool → Bool → Bool → FlagAnswer
+steps clientS clientO clientN mayS mayN =
+    let n = answerN clientN mayN in
+    let s = answerS n clientS mayS in
+    cond (isRefused clientS clientO clientN) R (withBits s (answerO s clientS) n)
+
+-- The steps at a place of the table.
+abbrev stepsAt : ℕ → FlagAnswer
+stepsAt place = steps (isSet (place % 8) 1) (isSet (place % 8) 2) (isSet (place % 8) 4) (may (place % 16 / 8)) (may (place / 16))
+
+abbrev upFrom : ℕ → ℕ → List ℕ
+upFrom i zero = []
+upFrom i (suc n) = i ∷ upFrom (suc i) n
+
+up-at : (n i k : ℕ) → k < n → getD (upFrom i n) k 0 ≡ i + k
+up-at zero i k h = absurd (omega arith)
+up-at (suc n) i zero h = omega arith
+up-at (suc n) i (suc k) h = up-at n (suc i) k (omega arith) ∙ omega arith
+
+-- The one test, computed: the steps at all 32 places are the table.
+all : map stepsAt (upFrom 0 32) ≡ flagTable
+all = refl
+
+at-place : (place : ℕ) → place < 32 → getD flagTable place (sent 0) ≡ stepsAt place
+at-place place h =
+    let e : getD (upFrom 0 32) place 0 ≡ place = up-at 32 0 place h ∙ zero-add place in
+    List·getD-map stepsAt (upFrom 0 32) place 0 ∙ ap stepsAt e
+
+-- A bit up to N depends on the lowest three alone.
+low : (flags bit : ℕ) → bit < 8 → bitAnd flags bit ≡ bitAnd (flags % 8) bit
+low flags bit h =
+    let e : bitAnd flags bit % 8 ≡ bitAnd (flags % 8) (bit % 8) = and-mod flags bit 3 in
+    let m : bitAnd flags bit ≤ bit = and-le-r flags bit in
+    let f : bitAnd flags bit ≡ bitAnd flags bit % 8 = omega arith in
+    let g : bit % 8 ≡ bit = omega arith in
+    f ∙ e ∙ ap (bitAnd (flags % 8)) g
+
+-- What may be honoured is 0 or 1 in a place, and any number in the call; its test is the same.
+honoured-most : (number : ℕ) → honoured number ≤ 1
+unfolding honoured
+honoured-most zero = omega arith
+honoured-most (suc n) = omega arith
+
+may-honoured : (number : ℕ) → may (honoured number) ≡ may number
+unfolding honoured
+may-honoured zero = refl
+may-honoured (suc n) = ap not (sym (ne-eqb (suc n) 0 (λ e. omega arith)))
+
+-- The answer of the definition is what the steps come to.
+module _ (low a b : ℕ) (h : low < 8) (x : a ≤ 1) (y : b ≤ 1) where
+  unplaced : getD flagTable (low + 8 * a + 16 * b) (sent 0) ≡ steps (isSet low 1) (isSet low 2) (isSet low 4) (may a) (may b)
+  unplaced =
+      let place = low + 8 * a + 16 * b in
+      let bits : place % 8 ≡ low = omega arith in
+      let mayS : place % 16 / 8 ≡ a = omega arith in
+      let mayN : place / 16 ≡ b = omega arith in
+      at-place place (omega arith) ∙ rw (bits, mayS, mayN)
+
+pub by-steps : (flags s n : ℕ) → flagAnswer flags s n ≡ steps (isSet flags 1) (isSet flags 2) (isSet flags 4) (may s) (may n)
+unfolding flagAnswer
+by-steps flags s n =
+    unplaced (flags % 8) (honoured s) (honoured n) (omega arith) (honoured-most s) (honoured-most n)
+    ∙ rw (low flags 1 (omega arith), low flags 2 (omega arith), low flags 4 (omega arith), may-honoured s, may-honoured n)

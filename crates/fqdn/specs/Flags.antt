@@ -1,6 +1,5 @@
 -- The flag decision. Document 01, "Name option".
-use Prim.Native.Nat.{ℕ, zero, suc, _+_, _*_, _%_, _≤_}
-use mathlib.Core.Path.{_≡_}
+use Prim.Native.Nat.{ℕ, zero, suc, _+_, _*_, _%_}
 use mathlib.Core.List.{List, [], _∷_}
 use lib.ListN.{getD}
 use Rattle.fqdn.specs.declared.flags.FlagAnswer.{FlagAnswer}
@@ -28,10 +27,3 @@ flagTable =
 -- Document 01, "Name option": the answer at its place in the table. Every place is one of the 32.
 unfoldable pub flagAnswer : ℕ → ℕ → ℕ → FlagAnswer
 flagAnswer flags s n = getD flagTable (flags % 8 + 8 * honoured s + 16 * honoured n) (sent 0)
-
--- ---- for the contracts of inner functions; no promise of an exported call cites these
-
--- The number that says whether a bit may be honoured, as a place in the table uses it: 0 or 1.
-pub record Honoured (number r : ℕ) : Type 0 where
-  pub is : r ≡ honoured number
-  pub small : r ≤ 1

@@ -1,6 +1,7 @@
 // The flag decision.
 ghost use mathlib.Core.Path.{_≡_};
-ghost use Rattle.fqdn.specs.Flags.{Honoured, flagAnswer};
+ghost use mathlib.Core.Bool.{cond};
+ghost use Rattle.fqdn.specs.Flags.{flagAnswer};
 
 // The answer to a client's flags octet. refusal: 0 where there is none. flags: the flags octet to
 // send, 0 beside a refusal.
@@ -10,70 +11,63 @@ pub struct FlagAnswer {
     pub flags: u32,
 }
 
-// Refusal 10 in the table: no answer is a flags octet of that number.
-const R: u8 = 10;
+// The bits of a flags octet (RFC 4704, section 4.1). S: the server updates the name's address.
+const S: u8 = 1;
 
-// The answers, at the place that the lowest three bits of the flags octet and what may be honoured
-// give. They are octets, since the table is copied whenever it is read at a place that varies.
-const ANSWERS: [u8; 32] = [
-    0, // neither honoured: no bit
-    2, // neither honoured: S
-    R, // neither honoured: O
-    R, // neither honoured: O and S
-    0, // neither honoured: N
-    R, // neither honoured: N and S
-    R, // neither honoured: N and O
-    R, // neither honoured: N, O and S
-    0, // S honoured: no bit
-    1, // S honoured: S
-    R, // S honoured: O
-    R, // S honoured: O and S
-    0, // S honoured: N
-    R, // S honoured: N and S
-    R, // S honoured: N and O
-    R, // S honoured: N, O and S
-    0, // N honoured: no bit
-    2, // N honoured: S
-    R, // N honoured: O
-    R, // N honoured: O and S
-    4, // N honoured: N
-    R, // N honoured: N and S
-    R, // N honoured: N and O
-    R, // N honoured: N, O and S
-    0, // both honoured: no bit
-    1, // both honoured: S
-    R, // both honoured: O
-    R, // both honoured: O and S
-    4, // both honoured: N
-    R, // both honoured: N and S
-    R, // both honoured: N and O
-    R, // both honoured: N, O and S
-];
+// O: the server overrides the client's wish for S.
+const O: u8 = 2;
 
-// 0 for no, 1 for any other number.
-fn bit(number: u8) -> usize
-    ensures { λ r. ⌜ Honoured number r ⌝ }
+// N: the server updates nothing.
+const N: u8 = 4;
+
+// What a bit adds to a flags octet.
+fn bit(set: bool, weight: u8) -> u32
+    ensures { λ r. ⌜ r ≡ cond set weight 0 ⌝ }
 {
-    if number == 0 { 0 } else { 1 }
+    if set { weight as u32 } else { 0 }
 }
 
 // The flags octet of the server's answer to a client's flags octet, or refusal 10. A number other
-// than 0 says that S, or N, may be honoured.
+// than 0 says that S, or N, may be honoured. The sections are those of RFC 4704.
 #[no_mangle]
 pub extern "C" fn jespurla_flag_decision(flags: u8, honour_s: u8, honour_n: u8) -> FlagAnswer
     ensures { λ r. ⌜ r ≡ flagAnswer flags «honour_s» «honour_n» ⌝ }
 {
-    let place = (flags % 8) as usize + 8 * bit(honour_s) + 16 * bit(honour_n);
-    let answer = ANSWERS[place];
-    if answer == R {
+    // Section 4.1: the client's bits. Those above N are not looked at.
+    let client_s = flags & S != 0;
+    let client_o = flags & O != 0;
+    let client_n = flags & N != 0;
+
+    // Before section 6, which refuses nothing: O, a server's bit, and N together with S are refused.
+    if client_o || client_n && client_s {
         return FlagAnswer {
             refusal: 10,
             flags: 0,
         };
     }
-    let sent = answer as u32;
+
+    // Section 6, first step: all bits of the answer are cleared.
+    let mut s = false;
+    let mut o = false;
+    let mut n = false;
+
+    // Section 6, second step: N is set if the client sets it and it may be honoured.
+    if client_n && honour_n != 0 {
+        n = true;
+    }
+
+    // Section 6, third step: otherwise S is set if the client sets it and it may be honoured.
+    if !n && client_s && honour_s != 0 {
+        s = true;
+    }
+
+    // Section 6, end of the third step: O is set if S is not as the client sent it.
+    if s != client_s {
+        o = true;
+    }
+
     FlagAnswer {
         refusal: 0,
-        flags: sent,
+        flags: bit(s, S) | bit(o, O) | bit(n, N),
     }
 }

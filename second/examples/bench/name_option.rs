@@ -49,14 +49,36 @@ extern "C" fn second_flags(flags: u8, honour_s: u8, honour_n: u8) -> FlagAnswer 
     flag_answer(flag_decision(flags, honour_s != 0, honour_n != 0))
 }
 
-pub fn run(rows: &mut Table) {
+/// A decision at all 32 places of its table, one after the other.
+fn in_turn<T>(decide: impl Fn(u8, u8, u8) -> T) {
+    for place in 0..32 {
+        black_box(&decide(black_box(place), place & 8, place & 16));
+    }
+}
+
+/// The flag decision of one octet, and of all.
+fn decisions(rows: &mut Table) {
+    // The linker fills in the product's address, and the compiler calls it through a pointer: so
+    // the second program's is called that way too.
+    let second: extern "C" fn(u8, u8, u8) -> FlagAnswer = black_box(second_flags);
+    let lent = |flags, honour_s, honour_n| flag_decision(flags, honour_s != 0, honour_n != 0);
     assert_eq!(raw::flag_decision(249, 1, 0), flag_answer(Ok(1)));
     rows.compare_lent(
         "flag decision",
         || raw::flag_decision(black_box(249), 1, 0),
-        || second_flags(black_box(249), 1, 0),
-        || flag_decision(black_box(249), true, false),
+        || second(black_box(249), 1, 0),
+        || lent(black_box(249), 1, 0),
     );
+    rows.compare_lent(
+        "flag decision, 32 in turn",
+        || in_turn(raw::flag_decision),
+        || in_turn(|flags, honour_s, honour_n| second(flags, honour_s, honour_n)),
+        || in_turn(lent),
+    );
+}
+
+pub fn run(rows: &mut Table) {
+    decisions(rows);
     let suffix = b"\x05stage\x00";
     option(rows, "whole, 13 octets", &name(13, 5, true), suffix);
     option(
