@@ -34,27 +34,19 @@ isSet flags bit = not (eqb (bitAnd flags bit) 0)
 abbrev pub may : ℕ → Bool
 may number = not (eqb number 0)
 
--- The steps of the code, by what the client sets and what may be honoured: the refusal, N, S, O.
+-- The steps of the code, by what the client sets and what may be honoured: the refusal; the answer with its S, O and N; S with what it leaves to O; all.
 abbrev pub isRefused : Bool → Bool → Bool → Bool
 isRefused clientS clientO clientN = clientO || clientN && clientS
-
-abbrev pub answerN : Bool → Bool → Bool
-answerN clientN mayN = clientN && mayN
-
-abbrev pub answerS : Bool → Bool → Bool → Bool
-answerS n clientS mayS = not n && clientS && mayS
-
-abbrev pub answerO : Bool → Bool → Bool
-answerO s clientS = not (Bool·beq s clientS)
 
 abbrev pub withBits : Bool → Bool → Bool → FlagAnswer
 withBits s o n = sent (bitOr (bitOr (cond s 1 0) (cond o 2 0)) (cond n 4 0))
 
+abbrev pub otherwise : Bool → Bool → FlagAnswer
+otherwise s clientS = withBits s (not (Bool·beq s clientS)) false
+
 abbrev pub steps : Bool → Bool → Bool → Bool → Bool → FlagAnswer
 steps clientS clientO clientN mayS mayN =
-    let n = answerN clientN mayN in
-    let s = answerS n clientS mayS in
-    cond (isRefused clientS clientO clientN) R (withBits s (answerO s clientS) n)
+    cond (isRefused clientS clientO clientN) R (cond (clientN && mayN) (withBits false false true) (otherwise (clientS && mayS) clientS))
 
 -- The steps at a place of the table.
 abbrev stepsAt : ℕ → FlagAnswer

@@ -54,16 +54,15 @@ pub extern "C" fn jespurla_flag_decision(flags: u8, honour_s: u8, honour_n: u8) 
     // Section 6, second step: N is set if the client sets it and it may be honoured.
     if client_n && honour_n != 0 {
         n = true;
-    }
-
-    // Section 6, third step: otherwise S is set if the client sets it and it may be honoured.
-    if !n && client_s && honour_s != 0 {
-        s = true;
-    }
-
-    // Section 6, end of the third step: O is set if S is not as the client sent it.
-    if s != client_s {
-        o = true;
+    } else {
+        // Section 6, third step: otherwise S is set if the client sets it and it may be honoured.
+        if client_s && honour_s != 0 {
+            s = true;
+        }
+        // Section 6, end of the third step: O is set if S is not as the client sent it.
+        if s != client_s {
+            o = true;
+        }
     }
 
     FlagAnswer {

@@ -1,8 +1,8 @@
 use mathlib.Core.Path.{_≡_, sym, _∙_}
-use mathlib.Core.Bool.{true, false, not, _&&_}
+use mathlib.Core.Bool.{true, false, cond, _&&_}
 use mathlib.Core.Logic.{⊎-elim}
 use borrow.Author.Needs.{needs}
-use Rattle.fqdn.proofs.FlagLaws.{isSet, may, isRefused, answerN, answerS, answerO, by-steps}
+use Rattle.fqdn.proofs.FlagLaws.{isSet, may, isRefused, withBits, otherwise, by-steps}
 use Rattle.fqdn.proofs.flags.jespurla_flag_decision.Statement.{statement}
 use Rattle.fqdn.proofs.flags.jespurla_flag_decision.Tie as tie
 
@@ -21,23 +21,34 @@ refused c =
 not-refused : (c : tie.Else3) → let flags = c .before .before .before .args .flags in isRefused (isSet flags 1) (isSet flags 2) (isSet flags 4) ≡ false
 not-refused c = simp (c .before .before .if1 .left, sym (n-and-s (c .before)), c .if3 .left)
 
--- N, S and O of the answer
-n-is : (c : tie.Joined4-2) → let a = c .before .before .before .before .args in c .if4 .n ≡ answerN (isSet (a .flags) 4) (may (a .honour-n))
-n-is c =
+-- N is not granted
+n-left : (c : tie.Joined4) → let a = c .before .before .before .before .args in (isSet (a .flags) 4 && may (a .honour-n)) ≡ false
+n-left c = ⊎-elim (λ w. simp (w .0 .taken, w .1 .left)) (λ w. simp (w .left)) (c .if4 .came)
+
+-- S, where N is not granted
+s-is : (c : tie.Joined6-2) → let a = c .before .before .before .before .before .args in c .if6 .s ≡ (isSet (a .flags) 1 && may (a .honour-s))
+s-is c =
     ⊎-elim
     (λ w. w .2 ∙ simp (w .0 .taken, w .1 .taken))
     (λ w. w .1 ∙ ⊎-elim (λ u. simp (u .0 .taken, u .1 .left)) (λ u. simp (u .left)) (w .0 .came))
-    (c .if4 .came)
-
-s-is : (c : tie.Joined6-2) → let a = c .before .before .before .before .before .args in c .if6 .s ≡ answerS (c .before .if4 .n) (isSet (a .flags) 1) (may (a .honour-s))
-s-is c =
-    ⊎-elim
-    (λ w. w .3 ∙ simp (w .0 .taken, w .1 .taken, w .2 .taken))
-    (λ w. w .1 ∙ ⊎-elim (λ u. simp (u .0 .taken, u .1 .taken, u .2 .left)) (⊎-elim (λ u. simp (u .0 .taken, u .1 .left)) (λ u. simp (u .left))) (w .0 .came))
     (c .if6 .came)
 
-o-is : (c : tie.Joined9) → let a = c .before .before .before .before .before .before .args in c .if9 .o ≡ answerO (c .before .if6 .s) (isSet (a .flags) 1)
-o-is c = ⊎-elim (λ w. w .1 ∙ sym (w .0 .taken)) (λ w. w .1 ∙ sym (w .0 .left)) (c .if9 .came)
+-- the bits of the answer: N granted; O set; O not set
+answered : (c : tie.Joined4-2) →
+    let a = c .before .before .before .before .args in
+    withBits (c .if4 .s) (c .if4 .o) (c .if4 .n)
+    ≡ cond (isSet (a .flags) 4 && may (a .honour-n)) (withBits false false true) (otherwise (isSet (a .flags) 1 && may (a .honour-s)) (isSet (a .flags) 1))
+answered c =
+    ⊎-elim
+    (λ w. simp (w .0 .taken, w .1 .taken, w .2, w .3, w .4))
+    (⊎-elim
+    (λ w.
+    let m : tie.Joined4 = record { before = c .before; if4 = w .0 } in
+    rw (n-left m, sym (s-is record { before = m; if6 = w .1 }), w .2 .taken, w .3, w .4, w .5))
+    (λ w.
+    let m : tie.Joined4 = record { before = c .before; if4 = w .0 } in
+    rw (n-left m, sym (s-is record { before = m; if6 = w .1 }), w .2 .left, w .3, w .4, w .5)))
+    (c .if4 .came)
 
 returns : tie.Need-returns
 returns c =
@@ -55,11 +66,9 @@ bit-requires-3 c κs = search needs
 
 returns-2 : tie.Need-returns-2
 returns-2 c =
-    let o = c .before .before .before in
-    let s = o .before in
-    let n = s .before in
-    let a = n .before .before .before .before .args in
-    rw (by-steps (a .flags) (a .honour-s) (a .honour-n), not-refused (n .before), sym (n-is n), sym (s-is s), sym (o-is o), c .before .before .bit .ensures, c .before .bit2 .ensures, c .bit3 .ensures)
+    let d = c .before .before .before in
+    let a = d .before .before .before .before .args in
+    rw (c .before .before .bit .ensures, c .before .bit2 .ensures, c .bit3 .ensures, by-steps (a .flags) (a .honour-s) (a .honour-n), not-refused (d .before)) (answered d)
 
 pub jespurla-flag-decision-spec : {M : Type 1} → statement M
 jespurla-flag-decision-spec = tie.close (tie.spec returns bit-requires bit-requires-2 bit-requires-3 returns-2)
