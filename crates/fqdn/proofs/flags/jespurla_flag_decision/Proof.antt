@@ -8,13 +8,18 @@ use Rattle.fqdn.proofs.flags.jespurla_flag_decision.Tie as tie
 
 -- N together with S
 n-and-s : (c : tie.Joined2) → let flags = c .before .before .args .flags in c .if2 .if3 ≡ (isSet flags 4 && isSet flags 1)
-n-and-s c = ⊎-elim (λ w. w .1 ∙ simp (w .0 .taken)) (λ w. w .1 ∙ simp (w .0 .left)) (c .if2 .came)
+n-and-s c =
+    let flags = c .before .before .args .flags in
+    ⊎-elim
+    (λ w. let n : isSet flags 4 ≡ true = w .0 .taken in w .1 ∙ simp n)
+    (λ w. let n : isSet flags 4 ≡ false = w .0 .left in w .1 ∙ simp n)
+    (c .if2 .came)
 
 -- the refusal
 refused : (c : tie.Joined1) → let flags = c .before .args .flags in isRefused (isSet flags 1) (isSet flags 2) (isSet flags 4) ≡ true
 refused c =
     ⊎-elim
-    (λ w. simp (w .taken))
+    (λ w. let o : isSet (c .before .args .flags) 2 ≡ true = w .taken in simp o)
     (λ w. simp (w .0 .left, sym (n-and-s record { before = record { before = c .before; if1 = w .0 }; if2 = w .1 }), w .2 .taken))
     (c .if1 .came)
 
