@@ -1,7 +1,7 @@
 -- Domain names in a field of octets. Document 01, "Name option".
-use Prim.Native.Nat.{ℕ, zero, suc}
-use mathlib.Core.Bool.{Bool, true, false, cond}
-use mathlib.Core.List.{List, [], _∷_}
+use Prim.Native.Nat.{ℕ, zero, suc, _+_}
+use mathlib.Core.Bool.{Bool, true, false, cond, _&&_}
+use mathlib.Core.List.{List, [], _∷_, map}
 use lib.Dec.{ltb, leb}
 use lib.ListN.{length, take}
 use Rattle.octets.specs.Compare.{sameOctets}
@@ -47,10 +47,14 @@ isFull name = full (shapeOf name)
 abbrev pub nameOf : Name → List ℕ
 nameOf n = take (n .len) (n .octets)
 
--- Document 01, "Name option": names are equal when their octets are. Two names are equal exactly when their keys are, and every
--- rule that compares names goes by the key.
+-- Document 02, a), and RFC 4343, section 3: a capital letter, 65 to 90, counts as the small one, 32 above it. Every other octet counts as itself.
+abbrev pub lower : ℕ → ℕ
+lower x = cond (leb 65 x && leb x 90) (x + 32) x
+
+-- Document 02, a): two names are equal exactly when their keys are, and every rule that compares names goes by the key. Folding all octets
+-- folds just the labels: the length of a label is at most 63, below every letter.
 unfoldable pub key : List ℕ → List ℕ
-key name = name
+key name = map lower name
 
 unfoldable pub sameName : List ℕ → List ℕ → Bool
 sameName a b = sameOctets (key a) (key b)

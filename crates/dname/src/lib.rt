@@ -5,6 +5,7 @@ ghost use lib.ListN.{length, drop};
 ghost use Rattle.dname.specs.Name.{labelsOf, shapeOf, sameName};
 ghost use Rattle.dname.specs.Reading.{Passed, PassedOne, ending, code};
 
+mod letters;
 pub mod name;
 
 // What a field holds.
@@ -129,9 +130,13 @@ pub fn shape_of(field: &[u8]) -> Shape
     Shape::Partial
 }
 
-// Whether two names are equal.
+// Whether two names are equal. Most that are have the same octets; letters are folded only where they
+// have not.
 pub fn same_name(a: &[u8], b: &[u8]) -> bool
     ensures { λ r. ⌜ r ≡ sameName (now (a .entry)) (now (b .entry)) ⌝ }
 {
-    octets::compare::same(a, b)
+    if octets::compare::same(a, b) {
+        return true;
+    }
+    letters::same_folded(a, b)
 }
