@@ -21,7 +21,7 @@ use Rattle.dname.proofs.NameLaws.{begun, too-long, shape-limited, key-s
 -- ---- one octet
 
 -- what an octet counts as, by where it stands
-data Octet (x : ℕ) : Type 0 where
+pub data Octet (x : ℕ) : Type 0 where
   below : x < 65 → lower x ≡ x → Octet x
   capital : 65 ≤ x → x ≤ 90 → lower x ≡ x + 32 → Octet x
   above : 90 < x → lower x ≡ x → Octet x
@@ -35,7 +35,7 @@ lower-capital x h k = rw (le-leb 65 x h, le-leb x 90 k)
 pub lower-above : (x : ℕ) → 90 < x → lower x ≡ x
 lower-above x h = rw (lt-leb x 90 h, and-false)
 
-octet : (x : ℕ) → Octet x
+pub octet : (x : ℕ) → Octet x
 octet x = go (ltb x 65) refl (ltb 90 x) refl
   where
     go : (b : Bool) → ltb x 65 ≡ b → (c : Bool) → ltb 90 x ≡ c → Octet x

@@ -4,3 +4,4 @@ pub mod CompareLaws
 pub mod CountLaws
 pub mod NumberLaws
 pub mod WriteLaws
+pub mod WordLaws

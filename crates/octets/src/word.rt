@@ -2,7 +2,7 @@
 ghost use mathlib.Core.Path.{_≡_};
 ghost use mathlib.Core.List.{[], _∷_};
 ghost use Prim.Native.Nat.{_<_};
-ghost use Rattle.octets.specs.Word.{value};
+ghost use Rattle.octets.specs.Word.{value, caseless};
 
 // An octet as a number that can be added to others.
 fn wide(x: u8) -> u64
@@ -23,4 +23,14 @@ pub fn eight(a: u8, b: u8, c: u8, d: u8, e: u8, f: u8, g: u8, h: u8) -> u64
     ensures { λ r. ⌜ r ≡ value (a ∷ b ∷ c ∷ d ∷ e ∷ f ∷ g ∷ h ∷ []) ⌝ }
 {
     four(a, b, c, d) + four(e, f, g, h) * 4294967296
+}
+
+// The bits of eight octets without the one of weight 32 in each.
+const CASELESS: u64 = 0xdfdf_dfdf_dfdf_dfdf;
+
+// Eight octets as a number, each without the bit in which a capital letter and the small one differ.
+pub fn eight_caseless(a: u8, b: u8, c: u8, d: u8, e: u8, f: u8, g: u8, h: u8) -> u64
+    ensures { λ r. ⌜ r ≡ value (caseless a ∷ caseless b ∷ caseless c ∷ caseless d ∷ caseless e ∷ caseless f ∷ caseless g ∷ caseless h ∷ []) ⌝ }
+{
+    eight(a, b, c, d, e, f, g, h) & CASELESS
 }

@@ -2,3 +2,5 @@
 pub mod Rules
 -- What the structs mean, and the numbers of a request.
 pub mod Meaning
+-- How the names of a zone are spelled.
+pub mod Spelling

@@ -1,11 +1,10 @@
 -- What the structs mean, and the numbers of a request. Document 01, "Zone, requests and jobs".
 use mathlib.Core.Bool.{Bool, true, cond, _&&_}
-use mathlib.Core.List.{List, [], _∷_}
-use mathlib.Core.Option.{Option, none, some}
+use mathlib.Core.List.{List}
+use mathlib.Core.Option.{none, some}
 use Prim.Native.Nat.{ℕ}
 use lib.Dec.{eqb, leb}
 use lib.ListN.{length, take}
-use Rattle.octets.specs.Compare.{sameOctets}
 use Rattle.octets.specs.Count.{Octets}
 use Rattle.addresses.specs.Addresses.{Family, four, six, list4, list6, setOf}
 use Rattle.dname.specs.declared.name.Name.{Name}
@@ -14,7 +13,7 @@ use Rattle.zone.specs.declared.entry.Dhcid.{Dhcid}
 use Rattle.zone.specs.declared.entry.Entry.{Entry}
 use Rattle.zone.specs.declared.Zone.{Zone}
 use Rattle.dname.specs.Name.{nameOf}
-use Rattle.zone.specs.Meaning.{used, keyOf, keys}
+use Rattle.zone.specs.Meaning.{keys, withKey}
 use Rattle.update.specs.Rules as rules
 use Rattle.update.specs.Rules.{Host, Update, Policy, keepOthers, oneOfFamily, onlyThis}
 
@@ -27,12 +26,8 @@ unfoldable pub hostOf : Entry → Host
 hostOf e = record { owner = cond (eqb (e .kind) 1) none (some (e .dhcid .octets)); addresses = λ f. setOf (listOf e f) }
 
 -- A zone: how many names stand at its places, and what stands at one.
-unfoldable pub look : List Entry → Octets → Option Host
-look [] k = none
-look (e ∷ es) k = cond (used e && sameOctets (keyOf e) k) (some (hostOf e)) (look es k)
-
 unfoldable pub zoneOf : Zone → rules.Zone
-zoneOf z = record { size = length (keys (z .entries)); at = look (z .entries) }
+zoneOf z = record { size = length (keys (z .entries)); at = withKey hostOf (z .entries) }
 
 -- ---- the numbers and structs of a request
 

@@ -2,7 +2,7 @@
 use mathlib.Core.Path.{_≡_, refl, sym, _∙_, ap}
 use mathlib.Core.Bool.{Bool, true, false, not, _&&_, _||_, or-false, true≢false}
 use mathlib.Core.List.{List, [], _∷_, map}
-use Prim.Native.Nat.{ℕ, suc, _+_, _*_, _-_, _/_, _≤_, _<_}
+use Prim.Native.Nat.{ℕ, zero, suc, _+_, _-_, _/_, _≤_, _<_}
 use native.Mathlib.Numerals.{add-one}
 use native.Mathlib.Omega.{arith}
 use lib.Dec.{eqb}
@@ -11,19 +11,43 @@ use lib.Seq.{drop-cons, length-take-le, getD-set-same, getD-set-other}
 use borrow.Author.Tests.{eqb-true, eqb-false, lt-ltb, le-ltb}
 use borrow.Table.Steps.{cases}
 use Rattle.octets.specs.Compare.{sameOctets}
-use Rattle.octets.specs.Number.{numberAt}
+use Rattle.octets.specs.Word.{caseless}
+use Rattle.octets.proofs.WordLaws.{caseless-letter}
 use Rattle.octets.proofs.CompareLaws.{same-differ}
-use Rattle.dname.specs.Name.{key, sameName}
+use Rattle.dname.specs.Name.{lower, key, sameName}
+use Rattle.dname.proofs.KeyLaws.{Octet, below, capital, above, octet, key-length, key-at}
 use Rattle.octets.specs.Count.{Octets, member, distinct}
-use Rattle.zone.specs.Survey.{folded, wordAt, wrapped, fingerprintFrom, fingerprintWords, fingerprintOf, among, markOf, repeated}
+use Rattle.zone.specs.Survey.{folded, caselessAt, wordAt, wrapped, fingerprintFrom, fingerprintWords, fingerprintOf, among, markOf, repeated}
 
 pub prefix-length : {A : Type 0} (l : List A) (n : ℕ) → n ≤ length l → n ≡ length (take n l)
 prefix-length l n h = sym (length-take-le n l h)
 
--- the one place where a fingerprint of octets is one of the key: the key of a name is its octets
+-- ---- folding leaves a fingerprint as it is
+
+caseless-lower : (x : ℕ) → caseless (lower x) ≡ caseless x
+caseless-lower x = go (octet x)
+  where
+    go : Octet x → caseless (lower x) ≡ caseless x
+    go (below h e) = ap caseless e
+    go (capital h k e) = ap caseless e ∙ caseless-letter x (omega arith) (omega arith)
+    go (above h e) = ap caseless e
+
+word-key : (s : List ℕ) (i : ℕ) → wordAt (key s) i ≡ wordAt s i
+unfolding wordAt
+word-key s i = rw (at i, at (i + 1), at (i + 2), at (i + 3), at (i + 4), at (i + 5), at (i + 6), at (i + 7)) refl
+  where
+    at : (k : ℕ) → caselessAt (key s) k ≡ caselessAt s k
+    at k = ap caseless (key-at s k) ∙ caseless-lower (getD s k 0)
+
+from-key : (n i p q : ℕ) (s : List ℕ) → fingerprintFrom n i p q (key s) ≡ fingerprintFrom n i p q s
+unfolding fingerprintFrom
+from-key zero i p q s = rw (key-length s, word-key s (length s - 8)) refl
+from-key (suc n) i p q s = rw (word-key s i) (from-key n (i + 8) (wrapped (p + wordAt s i)) (wrapped (q + wrapped (p + wordAt s i))) s)
+
+-- the one place where a fingerprint of octets is one of the key
 pub fingerprint-key : (name : Octets) → fingerprintWords name ≡ fingerprintOf name
-unfolding key
-fingerprint-key name = refl
+unfolding fingerprintWords
+fingerprint-key name = rw (key-length name, word-key name 0, from-key ((length name - 1) / 8) 0 0 0 name) refl
 
 -- names with different fingerprints are different
 pub fingerprint-differ : (a b : Octets) → (fingerprintOf a ≡ fingerprintOf b → ⊥) → sameName a b ≡ false
@@ -36,7 +60,7 @@ fingerprint-differ a b h = same-differ fingerprintWords (key a) (key b) h
 abbrev pub more : List ℕ → ℕ → ℕ → ℕ
 more s i p = wrapped (p + wordAt s i)
 
-pub fingerprint-short : (s : List ℕ) → length s < 8 → fingerprintWords s ≡ folded (numberAt 4 s 0 * 4294967296 + numberAt 4 s 4)
+pub fingerprint-short : (s : List ℕ) → length s < 8 → fingerprintWords s ≡ folded (wordAt s 0)
 unfolding fingerprintWords
 fingerprint-short s h = rw (lt-ltb (length s) 8 h)
 

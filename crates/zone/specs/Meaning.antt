@@ -1,9 +1,11 @@
 -- What the places of a zone mean, and the form that they must have. Document 01, "Zone, requests and jobs".
 use mathlib.Core.Bool.{Bool, true, false, cond, not, _&&_}
 use mathlib.Core.List.{List, [], _∷_}
+use mathlib.Core.Option.{Option, none, some}
 use lib.Dec.{eqb, leb}
 use lib.ListN.{length, take}
 use Rattle.dname.specs.Name.{nameOf, isFull, key}
+use Rattle.octets.specs.Compare.{sameOctets}
 use Rattle.octets.specs.Count.{Octets, distinct}
 use Rattle.addresses.specs.Addresses.{list4, list6, sound}
 use Rattle.addresses.specs.declared.set4.Set4.{Set4}
@@ -17,6 +19,11 @@ used e = not (eqb (e .kind) 0)
 
 abbrev pub keyOf : Entry → Octets
 keyOf e = key (nameOf (e .name))
+
+-- What is told of the used place that has a key; none where no used place has it. In a zone of good form no two have it.
+unfoldable pub withKey : {A : Type 0} → (Entry → A) → List Entry → Octets → Option A
+withKey tells [] k = none
+withKey tells (e ∷ es) k = cond (used e && sameOctets (keyOf e) k) (some (tells e)) (withKey tells es k)
 
 -- The keys of the names that stand at places.
 unfoldable pub keys : List Entry → List Octets
@@ -38,6 +45,6 @@ unfoldable pub allInOrder : List Entry → Bool
 allInOrder [] = true
 allInOrder (e ∷ es) = cond (used e) (inOrder e) true && allInOrder es
 
--- There are 64 places, every one is in order, and no two names are equal.
+-- There are 64 places, every one is in order, and no two names are equal: two that differ in case alone are.
 unfoldable pub formed : Zone → Bool
 formed z = eqb (length (z .entries)) 64 && (allInOrder (z .entries) && distinct (keys (z .entries)))

@@ -5,8 +5,7 @@ use mathlib.Core.List.{List, [], _∷_}
 use Prim.Native.Nat.{ℕ, zero, suc, _+_, _*_, _-_, _/_, _%_, _^_, _<_}
 use lib.Dec.{eqb, ltb}
 use lib.ListN.{length, getD}
-use Rattle.octets.specs.Number.{numberAt}
-use Rattle.octets.specs.Word.{value}
+use Rattle.octets.specs.Word.{value, caseless}
 use Rattle.dname.specs.Name.{key, sameName, nameOf}
 use Rattle.octets.specs.Count.{Octets, distinct}
 use Rattle.zone.specs.declared.entry.Entry.{Entry}
@@ -17,15 +16,19 @@ use Rattle.zone.specs.declared.entry.Records.{Records}
 use Rattle.dname.specs.declared.name.Name.{Name}
 use Rattle.zone.specs.Meaning.{used, keys, allInOrder}
 
--- ---- fingerprints: equal names have equal ones
+-- ---- fingerprints: equal names have equal ones, since no octet counts with the bit that tells a capital letter
 
 -- a number of 64 bits folded into 32
 unfoldable pub folded : ℕ → ℕ
 folded x = (x % 4294967296 + x / 4294967296 * 40503) % 4294967296
 
+-- an octet of a string without that bit
+abbrev pub caselessAt : List ℕ → ℕ → ℕ
+caselessAt s i = caseless (getD s i 0)
+
 -- the eight octets from a place on as one number
 unfoldable pub wordAt : List ℕ → ℕ → ℕ
-wordAt s i = value (getD s i 0 ∷ getD s (i + 1) 0 ∷ getD s (i + 2) 0 ∷ getD s (i + 3) 0 ∷ getD s (i + 4) 0 ∷ getD s (i + 5) 0 ∷ getD s (i + 6) 0 ∷ getD s (i + 7) 0 ∷ [])
+wordAt s i = value (caselessAt s i ∷ caselessAt s (i + 1) ∷ caselessAt s (i + 2) ∷ caselessAt s (i + 3) ∷ caselessAt s (i + 4) ∷ caselessAt s (i + 5) ∷ caselessAt s (i + 6) ∷ caselessAt s (i + 7) ∷ [])
 
 abbrev pub wrapped : ℕ → ℕ
 wrapped x = x % 2 ^ 64
@@ -35,9 +38,9 @@ unfoldable pub fingerprintFrom : ℕ → ℕ → ℕ → ℕ → List ℕ → �
 fingerprintFrom zero i sum sums s = folded (wrapped (sums + wrapped (sum + wordAt s (length s - 8))))
 fingerprintFrom (suc n) i sum sums s = fingerprintFrom n (i + 8) (wrapped (sum + wordAt s i)) (wrapped (sums + wrapped (sum + wordAt s i))) s
 
--- fewer than eight octets are one number
+-- fewer than eight octets are one word
 unfoldable pub fingerprintWords : Octets → ℕ
-fingerprintWords s = cond (ltb (length s) 8) (folded (numberAt 4 s 0 * 4294967296 + numberAt 4 s 4)) (fingerprintFrom ((length s - 1) / 8) 0 0 0 s)
+fingerprintWords s = cond (ltb (length s) 8) (folded (wordAt s 0)) (fingerprintFrom ((length s - 1) / 8) 0 0 0 s)
 
 abbrev pub fingerprintOf : Octets → ℕ
 fingerprintOf name = fingerprintWords (key name)

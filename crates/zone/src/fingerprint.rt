@@ -6,12 +6,12 @@ ghost use Prim.Native.Nat.{_<_, _≤_, _+_};
 ghost use lib.ListN.{length, drop};
 ghost use Rattle.zone.specs.Survey.{folded, wordAt, fingerprintWords, among, markOf, repeated};
 
-// The eight octets from a place on.
+// The eight octets from a place on, without the bits that tell capital letters.
 fn word(s: &[u8], i: usize) -> u64
     requires { ⌜ i + 8 ≤ length (now s) ⌝ }
     ensures { λ r. ⌜ r ≡ wordAt (now (s .entry)) i ⌝ }
 {
-    word::eight(
+    word::eight_caseless(
         s[i],
         s[i + 1],
         s[i + 2],
@@ -41,9 +41,17 @@ fn of_short(s: &[u8]) -> u32
     requires { ⌜ length (now s) < 8 ⌝ }
     ensures { λ r. ⌜ r ≡ fingerprintWords (now (s .entry)) ⌝ }
 {
-    let a = wide(number::u32_at(s, 0));
-    let b = wide(number::u32_at(s, 4));
-    fold(a * 4294967296 + b)
+    let w = word::eight_caseless(
+        number::octet_at(s, 0),
+        number::octet_at(s, 1),
+        number::octet_at(s, 2),
+        number::octet_at(s, 3),
+        number::octet_at(s, 4),
+        number::octet_at(s, 5),
+        number::octet_at(s, 6),
+        number::octet_at(s, 7),
+    );
+    fold(w)
 }
 
 // Words of eight octets are summed up, and their running sums in turn, so that it matters where a word

@@ -1,51 +1,62 @@
-use mathlib.Core.Path.{sym, _∙_, ap}
-use Prim.Native.Nat.{ℕ, _+_, _*_}
-use Rattle.octets.specs.Number.{numberAt}
-use Rattle.zone.specs.Survey.{folded}
-use Rattle.zone.proofs.FingerprintLaws.{fingerprint-short}
+use mathlib.Core.Path.{_≡_, refl, sym, _∙_, ap}
+use lib.ListN.{getD}
 use borrow.Author.Needs.{needs}
+use Rattle.zone.specs.Survey.{folded, wordAt}
+use Rattle.zone.proofs.FingerprintLaws.{fingerprint-short}
 use Rattle.zone.proofs.fingerprint.of_short.Statement.{statement}
 use Rattle.zone.proofs.fingerprint.of_short.Tie as tie
 
-u32-at-requires : tie.Need-u32-at-requires
-u32-at-requires c κs = search needs
+octet-at-requires : tie.Need-octet-at-requires
+octet-at-requires c κs = search needs
 
-wide-requires : tie.Need-wide-requires
-wide-requires c κs = search needs
+octet-at-requires-2 : tie.Need-octet-at-requires-2
+octet-at-requires-2 c κs = search needs
 
-u32-at-requires-2 : tie.Need-u32-at-requires-2
-u32-at-requires-2 c κs = search needs
+octet-at-requires-3 : tie.Need-octet-at-requires-3
+octet-at-requires-3 c κs = search needs
 
-wide-requires-2 : tie.Need-wide-requires-2
-wide-requires-2 c κs = search needs
+octet-at-requires-4 : tie.Need-octet-at-requires-4
+octet-at-requires-4 c κs = search needs
 
-mul-fold : tie.Need-mul-fold
-mul-fold c = search needs
+octet-at-requires-5 : tie.Need-octet-at-requires-5
+octet-at-requires-5 c κs = search needs
 
-add-fold : tie.Need-add-fold
-add-fold c = search needs
+octet-at-requires-6 : tie.Need-octet-at-requires-6
+octet-at-requires-6 c κs = search needs
+
+octet-at-requires-7 : tie.Need-octet-at-requires-7
+octet-at-requires-7 c κs = search needs
+
+octet-at-requires-8 : tie.Need-octet-at-requires-8
+octet-at-requires-8 c κs = search needs
+
+eight-caseless-requires : tie.Need-eight-caseless-requires
+eight-caseless-requires c κs = search needs
 
 fold-requires : tie.Need-fold-requires
 fold-requires c κs = search needs
 
 returns : tie.Need-returns
+unfolding wordAt
 returns c =
-    let s = c .before .before .before .before .before .before in
-    let n = s .args .s .now in
+    let s = c .before .before .before .before .before .before .before .before .before .before .before in
+    let a = c .before .before in
     c .fold .ensures
-    ∙ ap (λ (x : ℕ). folded (x * 4294967296 + c .before .wide2 .result)) (c .before .before .before .wide .ensures .0 ∙ c .before .before .before .before .u32-at .ensures)
-    ∙ ap (λ (x : ℕ). folded (numberAt 4 n 0 * 4294967296 + x)) (c .before .wide2 .ensures .0 ∙ c .before .before .u32-at2 .ensures)
-    ∙ sym (fingerprint-short n (s .pre))
+    ∙ ap folded (c .before .eight-caseless .ensures ∙ rw (a .before .before .before .before .before .before .before .octet-at .ensures, a .before .before .before .before .before .before .octet-at2 .ensures, a .before .before .before .before .before .octet-at3 .ensures, a .before .before .before .before .octet-at4 .ensures, a .before .before .before .octet-at5 .ensures, a .before .before .octet-at6 .ensures, a .before .octet-at7 .ensures, a .octet-at8 .ensures) refl)
+    ∙ sym (fingerprint-short (s .args .s .now) (s .pre))
 
 pub of-short-spec : {M : Type 1} → statement M
 of-short-spec =
     tie.close
     (tie.spec
-    u32-at-requires
-    wide-requires
-    u32-at-requires-2
-    wide-requires-2
-    mul-fold
-    add-fold
+    octet-at-requires
+    octet-at-requires-2
+    octet-at-requires-3
+    octet-at-requires-4
+    octet-at-requires-5
+    octet-at-requires-6
+    octet-at-requires-7
+    octet-at-requires-8
+    eight-caseless-requires
     fold-requires
     returns)
