@@ -7,6 +7,7 @@ use native.Mathlib.Omega.{arith}
 use borrow.Author.Tests.{ne-eqb}
 use lib.Dec.{eqb}
 use lib.ListN.{getD}
+use Rattle.octets.specs.Count.{Octets}
 use Rattle.dname.specs.Name.{key, nameOf}
 use Rattle.dname.specs.declared.name.Name.{Name}
 use Rattle.zone.specs.declared.entry.Entry.{Entry}
@@ -18,11 +19,11 @@ use Rattle.zone.specs.declared.survey.Survey.{Survey}
 use Rattle.request.specs.declared.decide.Change.{Change}
 use Rattle.update.specs.Rules as rules
 use Rattle.update.specs.Rules.{Host, GoodHost, Update, Answer, success, YXDOMAIN, NXDOMAIN, YXRRSET, NXRRSET, noRoom, Outcome, says, heldBy, empty, newHost, left, fits, requestA, requestB, removeAddress, removeName}
-use Rattle.zone.specs.Meaning.{used, keyOf, inOrder, formed}
+use Rattle.zone.specs.Meaning.{used, inOrder, formed}
 use Rattle.update.specs.Meaning.{hostOf, zoneOf, familyOf, policyOf, updateOf}
 use Rattle.request.specs.Promise.{numberOf}
 use Rattle.zone.specs.Survey.{Found, placeOf}
-use Rattle.request.specs.Inner.{SaysOnly, requestOf, written, Decided, Adds, Seen, Decides, Stands, Makes, Fresh, AlreadyAdded, HasAddress, HasRoom, Joined, Parted}
+use Rattle.request.specs.Inner.{SaysOnly, requestOf, written, Spells, Decided, Adds, Seen, Decides, Stands, Makes, Fresh, AlreadyAdded, HasAddress, HasRoom, Joined, Parted}
 use Rattle.zone.proofs.SurveyLaws.{blank}
 use Rattle.update.proofs.ZoneLaws.{put, address, some≢none, put-same, put-stood, A-new, A-full, A-there, B-absent, B-other, B-full, B-done, remove-address-absent, remove-address-other, remove-address-own, remove-name-absent, remove-name-other, remove-name-kept, remove-name-gone}
 use Rattle.request.proofs.HostLaws.{about}
@@ -31,8 +32,8 @@ use Rattle.request.proofs.PlaceLaws.{good-host, found-order, found-host
 
 -- ---- nothing is written, or one place
 
-module _ (z : Zone) (right : Outcome) (answer place : ℕ) (e : Entry) where
-  stay : (a : Answer) → right ≡ says a (zoneOf z) → answer ≡ numberOf a → place ≡ 64 → Decided z right answer place e
+module _ {n : Octets} (z : Zone) (right : Outcome) (answer place : ℕ) (e : Entry) where
+  stay : (a : Answer) → right ≡ says a (zoneOf z) → answer ≡ numberOf a → place ≡ 64 → Decided n z right answer place e
   stay a r p q = record {
     answerIs = p ∙ ap (λ (o : Outcome). numberOf (o .answer)) (sym r);
     stays = λ h. ap (λ (o : Outcome). o .zone) (sym r);
@@ -40,11 +41,11 @@ module _ (z : Zone) (right : Outcome) (answer place : ℕ) (e : Entry) where
     needed = λ h. absurd (omega arith);
   }
 
-  write : (y : rules.Zone) → right ≡ says success y → answer ≡ numberOf success → place < 64 → (formed (written z place e) ≡ true) × (zoneOf (written z place e) ≡ y) → ¬ (y ≡ zoneOf z) → Decided z right answer place e
+  write : (y : rules.Zone) → right ≡ says success y → answer ≡ numberOf success → place < 64 → (formed (written z place e) ≡ true) × (zoneOf (written z place e) ≡ y) × Spells n z (written z place e) → ¬ (y ≡ zoneOf z) → Decided n z right answer place e
   write y r p q w d = record {
     answerIs = p ∙ ap (λ (o : Outcome). numberOf (o .answer)) (sym r);
     stays = λ h. absurd (h q);
-    writes = λ h. (w .0, w .1 ∙ ap (λ (o : Outcome). o .zone) (sym r));
+    writes = λ h. (w .0, w .1 ∙ ap (λ (o : Outcome). o .zone) (sym r), w .2);
     needed = λ h k. d (ap (λ (o : Outcome). o .zone) (sym r) ∙ k);
   }
 
@@ -104,15 +105,15 @@ module _ (s : Survey) (d : Dhcid) (family : ℕ) (a : Address) where
   pub a-new : (r : Records) → ¬ (s .found < 64) → s .free < 64 → Fresh d family a r → Adds asksA s (writes-at (s .free) r)
   a-new r h k f = record { adds = λ z n g m v. new z n g v (f .stands n m) }
     where
-      new : (z : Zone) (n : Name) → formed z ≡ true → Found z (nameOf n) s → Stands n 2 (newHost (u n)) r → Decided z (asksA n (zoneOf z)) 0 (s .free) (placeOf n r)
+      new : (z : Zone) (n : Name) → formed z ≡ true → Found z (nameOf n) s → Stands n 2 (newHost (u n)) r → Decided (nameOf n) z (asksA n (zoneOf z)) 0 (s .free) (placeOf n r)
       new z n g v t =
           let used-r : used (placeOf n r) ≡ true = unfold used in rw (t .kindIs) refl in
-          let key-r : keyOf (placeOf n r) ≡ key (u n .name) = unfold updateOf in refl in
-          let room = free-room z g (u n .name) blank (s .free) (v .freeIs) k (absent n g v h) (placeOf n r) used-r key-r (t .orderIs) in
-          let w = free-written z g (u n .name) blank (s .free) (v .freeIs) k (absent n g v h) (placeOf n r) used-r key-r (t .orderIs) in
+          let name-r : nameOf n ≡ u n .name = unfold updateOf in refl in
+          let room = free-room z g (u n .name) blank (s .free) (v .freeIs) k (absent n g v h) (placeOf n r) used-r name-r (t .orderIs) in
+          let w = free-written z g (u n .name) blank (s .free) (v .freeIs) k (absent n g v h) (placeOf n r) used-r name-r (t .orderIs) in
           unfold numberOf in
           write z _ _ _ _ (put (u n .name) (some (newHost (u n))) (zoneOf z)) (A-new (u n) (zoneOf z) (absent n g v h) room) refl k
-          (w .0, w .1 ∙ ap (λ (x : Host). put (u n .name) (some x) (zoneOf z)) (t .hostIs))
+          (w .0, w .1 ∙ ap (λ (x : Host). put (u n .name) (some x) (zoneOf z)) (t .hostIs), unfold updateOf in w .2)
           (λ q. some≢none (put-stood (u n .name) (some (newHost (u n))) (zoneOf z) q ∙ absent n g v h))
 
   -- ---- the others, on what stands at the place found
@@ -155,11 +156,11 @@ module _ (s : Survey) (d : Dhcid) (family : ℕ) (a : Address) where
             inside q = cc
 
         rewritten : (f : Records) (x : Host) → Stands (it .name) (e .kind) x f
-            → (formed (written z (s .found) (placeOf (it .name) f)) ≡ true) × (zoneOf (written z (s .found) (placeOf (it .name) f)) ≡ put (u n .name) (some x) (zoneOf z))
+            → (formed (written z (s .found) (placeOf (it .name) f)) ≡ true) × (zoneOf (written z (s .found) (placeOf (it .name) f)) ≡ put (u n .name) (some x) (zoneOf z)) × Spells (nameOf n) z (written z (s .found) (placeOf (it .name) f))
         unfolding updateOf
         rewritten f x k =
             let w = found-changed z (t .form) (nameOf n) b (s .found) (t .found .foundIs) h (placeOf (it .name) f) (k .kindIs ∙ ap (λ (y : Entry). y .kind) whole) refl (k .orderIs) in
-            (w .0, w .1 ∙ ap (λ (y : Host). put (nameOf n) (some y) (zoneOf z)) (k .hostIs))
+            (w .0, w .1 ∙ ap (λ (y : Host). put (nameOf n) (some y) (zoneOf z)) (k .hostIs), w .2)
 
     module _ (request : Name → rules.Zone → Outcome) where
       -- nothing is written

@@ -28,7 +28,7 @@ use Rattle.request.specs.declared.lent.RequestAnswer.{RequestAnswer}
 use Rattle.request.specs.declared.decide.Change.{Change}
 use Rattle.request.specs.Promise.{refusalOf, Promised}
 use Rattle.request.specs.Lent.{refusalIn, answered, PromisedIn}
-use Rattle.request.specs.Inner.{written, Decided, Adds, Decides, Refuses}
+use Rattle.request.specs.Inner.{written, Spells, Decided, Adds, Decides, Refuses}
 use Rattle.request.proofs.PromiseLaws.{passed, promise-done, promise-same}
 
 module _ (z : List ℕ) (n : Octets) (family policy : ℕ) where
@@ -60,7 +60,7 @@ module _ (z : List ℕ) (n : Octets) (family policy : ℕ) where
     abbrev refusal : ℕ
     refusal = refusalIn z n family policy
 
-    pub promised-refused : (k : ℕ) → k ≡ refusal → ¬ (k ≡ 0) → PromisedIn z refusal request z (record { refusal = k; answer = 0 })
+    pub promised-refused : (k : ℕ) → k ≡ refusal → ¬ (k ≡ 0) → PromisedIn z n refusal request z (record { refusal = k; answer = 0 })
     promised-refused k p d =
         let m : ¬ (refusal ≡ 0) = λ q. d (p ∙ q) in
         record {
@@ -68,11 +68,11 @@ module _ (z : List ℕ) (n : Octets) (family policy : ℕ) where
           same = λ q. refl;
           unchanged = λ q. refl;
           elsewhere = one-place-same z;
-          promised = record { refusalIs = p; answerIs = rw (ne-eqb refusal 0 m); kept = λ q. refl; unchanged = λ q. refl; done = λ q. absurd (m q); formedAgain = λ q. absurd (m q) };
+          promised = record { refusalIs = p; answerIs = rw (ne-eqb refusal 0 m); kept = λ q. refl; unchanged = λ q. refl; done = λ q. absurd (m q); formedAgain = λ q. absurd (m q); spelled = λ q. absurd (m q) };
         }
 
     pub promised-done : (answer place : ℕ) (e : Entry) (k : ℕ) (after : List ℕ) → length z ≡ 23936 → k ≡ refusalOf (zoneIn z) n family policy → k ≡ 0
-        → Decided (zoneIn z) (request (zoneOf (zoneIn z))) answer place e → Written z place e after → PromisedIn z refusal request after (record { refusal = 0; answer = answer })
+        → Decided n (zoneIn z) (request (zoneOf (zoneIn z))) answer place e → Written z place e after → PromisedIn z n refusal request after (record { refusal = 0; answer = answer })
     promised-done answer place e k after l p q c t =
         let r : refusal ≡ 0 = sym (refusal-in l) ∙ sym p ∙ q in
         record {
@@ -81,37 +81,37 @@ module _ (z : List ℕ) (n : Octets) (family policy : ℕ) where
           unchanged = λ m. let h : ¬ (place < 64) = λ h. c .needed h m in t .stays (omega arith);
           elsewhere = t .elsewhere;
           promised =
-              subst (λ (r : ℕ). Promised (zoneIn z) r (request (zoneOf (zoneIn z))) (answered after (record { refusal = 0; answer = answer }))) (refusal-in l)
+              subst (λ (r : ℕ). Promised (zoneIn z) n r (request (zoneOf (zoneIn z))) (answered after (record { refusal = 0; answer = answer }))) (refusal-in l)
               (promise-same (zoneIn z) n family policy request request _ _ refl
               (ap (λ (x : Zone). record { refusal = 0; answer = answer; zone = x }) (t .writes l))
               (promise-done (zoneIn z) n family policy request k answer place e p q c));
         }
 
     -- a request of a kind is the one that the rules name
-    pub promised-same : (other : rules.Zone → Outcome) (after : List ℕ) (r : RequestAnswer) → ((x : rules.Zone) → other x ≡ request x) → PromisedIn z refusal request after r → PromisedIn z refusal other after r
+    pub promised-same : (other : rules.Zone → Outcome) (after : List ℕ) (r : RequestAnswer) → ((x : rules.Zone) → other x ≡ request x) → PromisedIn z n refusal request after r → PromisedIn z n refusal other after r
     promised-same other after r e p = record {
       size = p .size;
       same = p .same;
       unchanged = λ k. p .unchanged (ap (λ (o : Outcome). o .zone) (sym (e (zoneOf (zoneIn z)))) ∙ k);
       elsewhere = p .elsewhere;
-      promised = subst (λ (o : Outcome). Promised (zoneIn z) refusal o (answered after r)) (sym (e (zoneOf (zoneIn z)))) (p .promised);
+      promised = subst (λ (o : Outcome). Promised (zoneIn z) n refusal o (answered after r)) (sym (e (zoneOf (zoneIn z)))) (p .promised);
     }
 
 -- ---- decisions, and one place written
 
 -- an entry that is written nowhere may be any
-decided-as : {z : Zone} {right : Outcome} {answer place : ℕ} (e f : Entry) → (place < 64 → e ≡ f) → Decided z right answer place e → Decided z right answer place f
-decided-as {z} {right} {answer} {place} e f q c = record {
+decided-as : {n : Octets} {z : Zone} {right : Outcome} {answer place : ℕ} (e f : Entry) → (place < 64 → e ≡ f) → Decided n z right answer place e → Decided n z right answer place f
+decided-as {n} {z} {right} {answer} {place} e f q c = record {
   answerIs = c .answerIs;
   stays = c .stays;
-  writes = λ h. subst (λ (x : Entry). (formed (written z place x) ≡ true) × (zoneOf (written z place x) ≡ right .zone)) (q h) (c .writes h);
+  writes = λ h. subst (λ (x : Entry). (formed (written z place x) ≡ true) × (zoneOf (written z place x) ≡ right .zone) × Spells n z (written z place x)) (q h) (c .writes h);
   needed = c .needed;
 }
 
 module _ (z : List ℕ) (n : Name) (family policy : ℕ) (s : Survey) (k : ℕ) (v : SurveyedIn z (nameOf n) s) (r : Refuses (nameOf n) family policy s k) (q : k ≡ 0) (request : Name → rules.Zone → Outcome) (w : Change)
     (after : List ℕ) where
   abbrev Kept : Type 0
-  Kept = PromisedIn z (refusalIn z (nameOf n) family policy) (request n) after (record { refusal = 0; answer = w .answer })
+  Kept = PromisedIn z (nameOf n) (refusalIn z (nameOf n) family policy) (request n) after (record { refusal = 0; answer = w .answer })
 
   size : length z ≡ 23936
   size = zone-there z (nameOf n) family policy s k v r q

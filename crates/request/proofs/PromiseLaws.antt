@@ -26,10 +26,12 @@ use Rattle.update.specs.Rules.{Update, Outcome}
 use Rattle.dname.specs.Name.{nameOf, isFull}
 use Rattle.zone.specs.Meaning.{keys, allInOrder, formed}
 use Rattle.update.specs.Meaning.{zoneOf, updateOf, listed}
+use Rattle.update.specs.Spelling.{spellingOf, respelled}
 use Rattle.request.specs.Promise.{numberOf, refusalOf, Promised, RequestPromise}
 use Rattle.zone.specs.Survey.{Visited, placeOf, recordsOf}
-use Rattle.request.specs.Inner.{requestOf, requestWith, written, settled, effectAt, Settles, Decided, Adds, Decides, Comes}
+use Rattle.request.specs.Inner.{requestOf, requestWith, written, settled, effectAt, Settles, Spells, Decided, Adds, Decides, Comes}
 use Rattle.request.proofs.PlaceLaws.{formed-places}
+use Rattle.request.proofs.SpellingLaws.{spells-same, spelled-by}
 
 -- ---- the refusals, in their order
 
@@ -129,13 +131,13 @@ module _ (z : Zone) (n : Octets) (family policy : ℕ) (request : rules.Zone →
   refusal = refusalOf z n family policy
 
   pub promise-refused : (k : ℕ) (e : Entry) → length (z .entries) ≡ 64 → k ≡ refusal → ¬ (k ≡ 0)
-      → Promised z refusal (request (zoneOf z)) (settled z (record { refusal = k; answer = 0; place = 64; entry = e }))
+      → Promised z n refusal (request (zoneOf z)) (settled z (record { refusal = k; answer = 0; place = 64; entry = e }))
   promise-refused k e l p d =
       let m : ¬ (refusal ≡ 0) = λ q. d (p ∙ q) in
-      record { refusalIs = p; answerIs = rw (ne-eqb refusal 0 m); kept = λ q. no-place z 64 e l (omega arith); unchanged = λ q. no-place z 64 e l (omega arith); done = λ q. absurd (m q); formedAgain = λ q. absurd (m q) }
+      record { refusalIs = p; answerIs = rw (ne-eqb refusal 0 m); kept = λ q. no-place z 64 e l (omega arith); unchanged = λ q. no-place z 64 e l (omega arith); done = λ q. absurd (m q); formedAgain = λ q. absurd (m q); spelled = λ q. absurd (m q) }
 
-  pub promise-done : (k answer place : ℕ) (e : Entry) → k ≡ refusal → k ≡ 0 → Decided z (request (zoneOf z)) answer place e
-      → Promised z refusal (request (zoneOf z)) (record { refusal = 0; answer = answer; zone = written z place e })
+  pub promise-done : (k answer place : ℕ) (e : Entry) → k ≡ refusal → k ≡ 0 → Decided n z (request (zoneOf z)) answer place e
+      → Promised z n refusal (request (zoneOf z)) (record { refusal = 0; answer = answer; zone = written z place e })
   promise-done k answer place e p q c =
       let r : refusal ≡ 0 = sym p ∙ q in
       let g : formed z ≡ true = not-refused z n family policy r .form in
@@ -146,22 +148,23 @@ module _ (z : Zone) (n : Octets) (family policy : ℕ) (request : rules.Zone →
         unchanged = λ q. same g (λ h. c .needed h q);
         done = λ q. zone g (ltb place 64) refl .0;
         formedAgain = λ q. zone g (ltb place 64) refl .1;
+        spelled = λ q. spelled-by n z (written z place e) (zone g (ltb place 64) refl .2) (request (zoneOf z) .zone) (zone g (ltb place 64) refl .0);
       }
     where
       same : formed z ≡ true → ¬ (place < 64) → written z place e ≡ z
       same g h = no-place z place e (formed-places z g) (omega arith)
 
-      zone : formed z ≡ true → (b : Bool) → ltb place 64 ≡ b → (zoneOf (written z place e) ≡ request (zoneOf z) .zone) × (formed (written z place e) ≡ true)
+      zone : formed z ≡ true → (b : Bool) → ltb place 64 ≡ b → (zoneOf (written z place e) ≡ request (zoneOf z) .zone) × (formed (written z place e) ≡ true) × Spells n z (written z place e)
       zone g true t =
           let h = ltb-true place 64 t in
-          (c .writes h .1, c .writes h .0)
+          (c .writes h .1, c .writes h .0, c .writes h .2)
       zone g false t =
           let k = ltb-false place 64 t in
           let h : ¬ (place < 64) = λ q. omega arith in
-          (ap zoneOf (same g h) ∙ c .stays h, ap formed (same g h) ∙ g)
+          (ap zoneOf (same g h) ∙ c .stays h, ap formed (same g h) ∙ g, spells-same n z (written z place e) (same g h))
 
   -- a request of a kind is the one that the rules name
-  pub promise-same : (other : rules.Zone → Outcome) (r q : Answered) → other (zoneOf z) ≡ request (zoneOf z) → q ≡ r → Promised z refusal (request (zoneOf z)) r → Promised z refusal (other (zoneOf z)) q
+  pub promise-same : (other : rules.Zone → Outcome) (r q : Answered) → other (zoneOf z) ≡ request (zoneOf z) → q ≡ r → Promised z n refusal (request (zoneOf z)) r → Promised z n refusal (other (zoneOf z)) q
   promise-same other r q e f p =
       record {
         refusalIs = ap (λ (a : Answered). a .refusal) f ∙ p .refusalIs;
@@ -170,6 +173,7 @@ module _ (z : Zone) (n : Octets) (family policy : ℕ) (request : rules.Zone →
         unchanged = λ k. ap (λ (a : Answered). a .zone) f ∙ p .unchanged (ap (λ (o : Outcome). o .zone) (sym e) ∙ k);
         done = λ k. ap (λ (a : Answered). zoneOf (a .zone)) f ∙ p .done k ∙ ap (λ (o : Outcome). o .zone) (sym e);
         formedAgain = λ k. ap (λ (a : Answered). formed (a .zone)) f ∙ p .formedAgain k;
+        spelled = λ k. ap (λ (a : Answered). spellingOf (a .zone)) f ∙ p .spelled k ∙ ap (λ (o : Outcome). respelled n (o .zone) (spellingOf z)) (sym e);
       }
 
 -- ---- a request by value: what it is, what it comes to, and that one place is written
@@ -203,17 +207,17 @@ module _ (n : Name) (v : Visit) where
           let k = d .placeIs h in
           ap (λ (i : ℕ). getD (z .entries) i (v .entry) .name) k ∙ ap (λ (y : Entry). y .name) (sym (t .entryIs (v .entry) (omega arith)))
 
-      stays-named : (z : Zone) → Visited z (nameOf n) v → Decided z (request n (zoneOf z)) (w .answer) (w .place) (placeOf (getD (z .entries) (w .place) (v .entry) .name) (w .records))
-          → Decided z (request n (zoneOf z)) (w .answer) (w .place) (placeOf (v .entry .name) (w .records))
+      stays-named : (z : Zone) → Visited z (nameOf n) v → Decided (nameOf n) z (request n (zoneOf z)) (w .answer) (w .place) (placeOf (getD (z .entries) (w .place) (v .entry) .name) (w .records))
+          → Decided (nameOf n) z (request n (zoneOf z)) (w .answer) (w .place) (placeOf (v .entry .name) (w .records))
       stays-named z t c = record {
         answerIs = c .answerIs;
         stays = c .stays;
-        writes = λ h. subst (λ (m : Name). (formed (written z (w .place) (placeOf m (w .records))) ≡ true) × (zoneOf (written z (w .place) (placeOf m (w .records))) ≡ request n (zoneOf z) .zone)) (name z t h) (c .writes h);
+        writes = λ h. subst (λ (m : Name). (formed (written z (w .place) (placeOf m (w .records))) ≡ true) × (zoneOf (written z (w .place) (placeOf m (w .records))) ≡ request n (zoneOf z) .zone) × Spells (nameOf n) z (written z (w .place) (placeOf m (w .records)))) (name z t h) (c .writes h);
         needed = c .needed;
       }
 
 pub promise-visited : (z : Zone) (n : Octets) (family policy : ℕ) (request : rules.Zone → Outcome) (k : ℕ) (v : Visit) (x : Effect) → k ≡ refusalOf z n family policy → k ≡ 0
-    → Visited z n v → Comes request n v x → Promised z (refusalOf z n family policy) (request (zoneOf z)) (settled z x)
+    → Visited z n v → Comes request n v x → Promised z n (refusalOf z n family policy) (request (zoneOf z)) (settled z x)
 promise-visited z n family policy request k v x p q t d =
     let o = passed z n family policy k p q in
     promise-same z n family policy request request _ _ refl

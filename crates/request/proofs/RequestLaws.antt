@@ -15,8 +15,8 @@ use Rattle.octets.proofs.CountLaws.{distinct-nil}
 use Rattle.zone.specs.declared.entry.Entry.{Entry}
 use Rattle.zone.specs.declared.Zone as place
 use Rattle.update.specs.Rules.{Host, Zone, Form, Update, Policy, Answer, success, YXDOMAIN, NXDOMAIN, YXRRSET, NXRRSET, noRoom, Outcome, says, atName, heldBy, empty, newHost, left, fits, requestA, requestB, removeAddress, removeName}
-use Rattle.zone.specs.Meaning.{used, keys, allInOrder, formed}
-use Rattle.update.specs.Meaning.{look, zoneOf}
+use Rattle.zone.specs.Meaning.{used, keys, withKey, allInOrder, formed}
+use Rattle.update.specs.Meaning.{hostOf, zoneOf}
 use Rattle.update.proofs.ZoneLaws.{put, address, option-case, put-at, put-off, good-add, good-remove, good-left, good-new, form-new, form-change, form-delete, A-new, A-full, A-there, B-absent, B-other, B-full, B-done, remove-address-absent, remove-address-other, remove-address-own, remove-name-absent, remove-name-other, remove-name-kept, remove-name-gone}
 use Rattle.request.proofs.PlaceLaws.{None, formed-all}
 
@@ -178,10 +178,10 @@ unfolding allInOrder
 no-order [] h = refl
 no-order (e ∷ es) h = rw (h .0) (no-order es (h .1))
 
-no-look : (es : List Entry) → None used es → (k : Octets) → look es k ≡ none
-unfolding look
-no-look [] h k = refl
-no-look (e ∷ es) h k = rw (h .0) (no-look es (h .1) k)
+none-with : (es : List Entry) → None used es → (k : Octets) → withKey hostOf es k ≡ none
+unfolding withKey
+none-with [] h k = refl
+none-with (e ∷ es) h k = rw (h .0) (none-with es (h .1) k)
 
 pub empty-formed : (z : place.Zone) → length (z .entries) ≡ 64 → None used (z .entries) → formed z ≡ true
 empty-formed z l h = formed-all z l (no-order (z .entries) h) (ap distinct (no-keys (z .entries) h) ∙ distinct-nil)
@@ -190,5 +190,5 @@ pub empty-zone : (z : place.Zone) → None used (z .entries) → zoneOf z ≡ re
 unfolding zoneOf
 empty-zone z h =
     let n : length (keys (z .entries)) ≡ 0 = ap length (no-keys (z .entries) h) in
-    let f : look (z .entries) ≡ (λ (k : Octets). none) = fun-ext (no-look (z .entries) h) in
+    let f : withKey hostOf (z .entries) ≡ (λ (k : Octets). none) = fun-ext (none-with (z .entries) h) in
     λ i. record { size = n i; at = f i }

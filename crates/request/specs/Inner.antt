@@ -1,6 +1,7 @@
 -- What inner functions decide, on a survey of the zone. No promise of an exported call cites these.
 use mathlib.Core.Path.{_≡_}
 use mathlib.Core.List.{List}
+use mathlib.Core.Option.{some}
 use mathlib.Core.Bool.{Bool, true, false, cond, _&&_}
 use Prim.Native.Nat.{ℕ, _+_, _<_}
 use lib.Dec.{eqb}
@@ -25,6 +26,7 @@ use Rattle.request.specs.declared.Request.{Request}
 use Rattle.update.specs.Rules as rules
 use Rattle.update.specs.Rules.{Host, Update, Policy, keepOthers, oneOfFamily, onlyThis, ownFamily, withAddress, withoutAddress, newHost, fits, Outcome, requestA, requestB, removeAddress, removeName}
 use Rattle.update.specs.Meaning.{hostOf, zoneOf, familyOf, policyOf, addressOf, updateOf}
+use Rattle.update.specs.Spelling.{spellingOf, kept}
 use Rattle.request.specs.Promise.{numberOf, refusalOf, Promised}
 
 -- the refusal that follows from a survey
@@ -62,13 +64,17 @@ effectAt n w = record { refusal = 0; answer = w .answer; place = w .place; entry
 
 -- what is promised of a request holds once its place is written
 abbrev pub Settles : Zone → Request → Effect → Type 0
-Settles z q w = Promised z (refusalOf z (nameOf (q .name)) (q .family) (q .policy)) (asks q (zoneOf z)) (settled z w)
+Settles z q w = Promised z (nameOf (q .name)) (refusalOf z (nameOf (q .name)) (q .family) (q .policy)) (asks q (zoneOf z)) (settled z w)
 
--- the rules' answer; nothing is written where they leave the zone as it is, and else one place, which makes it theirs
-pub record Decided (z : Zone) (right : Outcome) (answer place : ℕ) (e : Entry) : Type 0 where
+-- each name that stands after a request is spelled as it was, and a name that did not stand as the request has it
+abbrev pub Spells : Octets → Zone → Zone → Type 0
+Spells n z after = (k octets : Octets) → spellingOf after k ≡ some octets → octets ≡ kept n (spellingOf z k)
+
+-- the rules' answer to a request about n; nothing is written where they leave the zone as it is, and else one place, which makes it theirs
+pub record Decided (n : Octets) (z : Zone) (right : Outcome) (answer place : ℕ) (e : Entry) : Type 0 where
   pub answerIs : answer ≡ numberOf (right .answer)
   pub stays : ¬ (place < 64) → zoneOf z ≡ right .zone
-  pub writes : place < 64 → (formed (written z place e) ≡ true) × (zoneOf (written z place e) ≡ right .zone)
+  pub writes : place < 64 → (formed (written z place e) ≡ true) × (zoneOf (written z place e) ≡ right .zone) × Spells n z (written z place e)
   pub needed : place < 64 → ¬ (right .zone ≡ zoneOf z)
 
 -- an answer, and no place to write
@@ -80,7 +86,7 @@ pub record SaysOnly (answer : ℕ) (w : Change) : Type 0 where
 -- name is written with the records
 pub record Adds (request : Name → rules.Zone → Outcome) (s : Survey) (w : Change) : Type 0 where
   pub adds : (z : Zone) (n : Name) → formed z ≡ true → isFull (nameOf n) ≡ true → Found z (nameOf n) s
-      → Decided z (request n (zoneOf z)) (w .answer) (w .place) (placeOf n (w .records))
+      → Decided (nameOf n) z (request n (zoneOf z)) (w .answer) (w .place) (placeOf n (w .records))
 
 -- the survey is of a zone in form and of the name n, and e is what stands at the place found (b stands for places past the end)
 pub record Seen (z : Zone) (n : Name) (b : Entry) (s : Survey) (e : Records) : Type 0 where
@@ -93,12 +99,12 @@ pub record Seen (z : Zone) (n : Name) (b : Entry) (s : Survey) (e : Records) : T
 pub record Decides (request : Name → rules.Zone → Outcome) (s : Survey) (e : Records) (w : Change) : Type 0 where
   pub placeIs : w .place < 64 → w .place ≡ s .found
   pub decides : (z : Zone) (n : Name) (b : Entry) → Seen z n b s e
-      → Decided z (request n (zoneOf z)) (w .answer) (w .place) (placeOf (getD (z .entries) (w .place) b .name) (w .records))
+      → Decided (nameOf n) z (request n (zoneOf z)) (w .answer) (w .place) (placeOf (getD (z .entries) (w .place) b .name) (w .records))
 
 -- a request on what was visited: right for every zone in form that the visit is of, if the name is full
 pub record Comes (request : rules.Zone → Outcome) (n : Octets) (v : Visit) (w : Effect) : Type 0 where
   pub refusalIs : w .refusal ≡ 0
-  pub comes : (z : Zone) → formed z ≡ true → isFull n ≡ true → Visited z n v → Decided z (request (zoneOf z)) (w .answer) (w .place) (w .entry)
+  pub comes : (z : Zone) → formed z ≡ true → isFull n ≡ true → Visited z n v → Decided n z (request (zoneOf z)) (w .answer) (w .place) (w .entry)
 
 -- ---- what stands at a name, without the name
 

@@ -14,6 +14,7 @@ use Rattle.update.specs.Rules.{Update, Answer, success, NXDOMAIN, YXDOMAIN, YXR
 use Rattle.dname.specs.Name.{nameOf, isFull}
 use Rattle.zone.specs.Meaning.{formed}
 use Rattle.update.specs.Meaning.{zoneOf, updateOf, listed}
+use Rattle.update.specs.Spelling.{spellingOf, respelled}
 
 -- The refusals in their order: the zone's form, a number that is not listed, a name that is not full. 0 is none.
 unfoldable pub refusalOf : Zone → Octets → ℕ → ℕ → ℕ
@@ -28,18 +29,20 @@ numberOf YXRRSET = 7
 numberOf NXRRSET = 8
 numberOf noRoom = 256
 
--- A request on the zone z, its refusal, and what the rules give where there is none. A refused request hands back the very same zone
--- and 0 for an answer; any other the rules' answer, and a zone of good form that is the rules', at whichever places its names stand.
--- Where the rules leave the zone as it is, the very same zone comes back, every octet of it.
-pub record Promised (z : Zone) (refusal : ℕ) (right : Outcome) (r : Answered) : Type 0 where
+-- A request about a name on the zone z, its refusal, and what the rules give where there is none. A refused request hands back the very same
+-- zone and 0 for an answer; any other the rules' answer, and a zone of good form that is the rules', at whichever places its names stand.
+-- Each of them is spelled as it was, and a name that is new as the request has it. Where the rules leave the zone as it is, the very same
+-- zone comes back, every octet of it.
+pub record Promised (z : Zone) (name : Octets) (refusal : ℕ) (right : Outcome) (r : Answered) : Type 0 where
   pub refusalIs : r .refusal ≡ refusal
   pub answerIs : r .answer ≡ cond (eqb refusal 0) (numberOf (right .answer)) 0
   pub kept : ¬ (refusal ≡ 0) → r .zone ≡ z
   pub unchanged : right .zone ≡ zoneOf z → r .zone ≡ z
   pub done : refusal ≡ 0 → zoneOf (r .zone) ≡ right .zone
   pub formedAgain : refusal ≡ 0 → formed (r .zone) ≡ true
+  pub spelled : refusal ≡ 0 → spellingOf (r .zone) ≡ respelled name (right .zone) (spellingOf z)
 
 -- A request by its rule, which takes an update, and its policy, 0 where it has none.
 abbrev pub RequestPromise : (Update → rules.Zone → Outcome) → Zone → Name → Dhcid → ℕ → Address → ℕ → Answered → Type 0
 RequestPromise rule z n d family a policy r =
-    Promised z (refusalOf z (nameOf n) family policy) (rule (updateOf n d family a) (zoneOf z)) r
+    Promised z (nameOf n) (refusalOf z (nameOf n) family policy) (rule (updateOf n d family a) (zoneOf z)) r
