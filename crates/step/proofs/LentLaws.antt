@@ -32,14 +32,14 @@ module _ (z : List ℕ) (j : Job) where
   -- a stage that sends a request
   pub kept-in : (p : ℕ) (request : rules.Zone → Outcome) (rule : Answer → Stage) (sent : RequestAnswer) (next : Job) (after : List ℕ) (r : StepAnswer)
       → numbersListed j ≡ true → listed (j .family) p ≡ true → stepOf (zoneIn z) j ≡ goesOn (request (zoneOf (zoneIn z))) rule
-      → PromisedIn z (refusalIn z n (j .family) p) request after sent → next ≡ led j rule (sent .answer) → CarriedIn sent j next r → StepPromiseIn z j after r
+      → PromisedIn z n (refusalIn z n (j .family) p) request after sent → next ≡ led j rule (sent .answer) → CarriedIn sent j next r → StepPromiseIn z j after r
   kept-in p request rule sent next after r h i s m leads c = record {
     size = m .size;
     same = λ d. m .same (λ e. d (c .refusalIs ∙ m .promised .refusalIs ∙ e));
     unchanged = λ e. m .unchanged (ap (λ (w : State). w .zone) (sym s) ∙ e);
     elsewhere = m .elsewhere;
     held = λ l. step-kept (zoneIn z) j p (request (zoneOf (zoneIn z))) rule (answered after sent) next (stepped after r) h i s
-        (subst (λ (k : ℕ). Promised (zoneIn z) k (request (zoneOf (zoneIn z))) (answered after sent)) (sym (refusal-in z n (j .family) p l)) (m .promised))
+        (subst (λ (k : ℕ). Promised (zoneIn z) n k (request (zoneOf (zoneIn z))) (answered after sent)) (sym (refusal-in z n (j .family) p l)) (m .promised))
         leads
         (record { refusalIs = c .refusalIs; zoneIs = refl; jobIs = c .jobIs });
     refused = λ d.

@@ -15,9 +15,11 @@ use Rattle.update.specs.Rules.{Answer, Outcome, requestA, requestB, removeAddre
 use Rattle.dname.specs.Name.{nameOf}
 use Rattle.zone.specs.Meaning.{formed}
 use Rattle.update.specs.Meaning.{listed, policyOf, updateOf, zoneOf}
+use Rattle.update.specs.Spelling.{spellingOf, respelled}
 use Rattle.request.specs.Promise.{refusalOf, numberOf, Promised}
 use Rattle.update.proofs.NumberLaws.{listed-zero}
 use Rattle.request.proofs.PromiseLaws.{refusal-listed, says-17, not-17}
+use Rattle.request.proofs.SpellingLaws.{spells-same, spelled-by}
 use Rattle.job.specs.declared.job.Job.{Job}
 use Rattle.job.specs.Jobs.{Stage, beforeA, beforeB, beforeFirst, beforeSecond, ended, End, State, goesOn, after, afterFirst, afterSecond, step}
 use Rattle.job.specs.Meaning.{stageNumber, stages, numbered, stageAt, stageCount, stageOf, canHave, isAdd, argumentsOf, atStage, numbersListed}
@@ -86,7 +88,7 @@ module _ (z : Zone) (j : Job) where
 
   pub step-kept : (p : ℕ) (o : Outcome) (rule : Answer → Stage) (sent : Answered) (next : Job) (r : Stepped)
       → numbersListed j ≡ true → listed (j .family) p ≡ true → stepOf z j ≡ goesOn o rule
-      → Promised z (refusalOf z (nameOf (j .name)) (j .family) p) o sent → next ≡ led j rule (sent .answer) → Carried sent j next r → StepPromise z j r
+      → Promised z (nameOf (j .name)) (refusalOf z (nameOf (j .name)) (j .family) p) o sent → next ≡ led j rule (sent .answer) → Carried sent j next r → StepPromise z j r
   step-kept p o rule sent next r h l s m leads c = record {
     refusalIs = c .refusalIs ∙ k .refusalIs;
     zoneKept = λ n. c .zoneIs ∙ k .kept n;
@@ -94,14 +96,15 @@ module _ (z : Zone) (j : Job) where
     jobKept = λ n. c .jobIs ∙ ap (λ (b : Bool). cond b next j) (ne-eqb (sent .refusal) 0 (λ e. n (sym (k .refusalIs) ∙ e)));
     zoneIs = λ e. ap zoneOf (c .zoneIs) ∙ k .done e ∙ ap (λ (w : State). w .zone) (sym s);
     formedAgain = λ e. ap formed (c .zoneIs) ∙ k .formedAgain e;
+    spelled = λ e. ap spellingOf (c .zoneIs) ∙ k .spelled e ∙ ap (λ (w : State). respelled (nameOf (j .name)) (w .zone) (spellingOf z)) (sym s);
     jobIs = λ e. c .jobIs ∙ ap (λ (b : Bool). cond b next j) (eq-eqb (sent .refusal) 0 (k .refusalIs ∙ e))
         ∙ leads ∙ ap (led j rule) (k .answerIs ∙ ap (λ (b : Bool). cond b (numberOf (o .answer)) 0) (eq-eqb (stepRefusal z j) 0 e))
         ∙ ap (λ (a : Answer). atStage j (rule a)) (answer-number (o .answer))
         ∙ ap (λ (w : State). atStage j (w .stage)) (sym s);
   }
     where
-      k : Promised z (stepRefusal z j) o sent
-      k = subst (λ (n : ℕ). Promised z n o sent) (refusal-same p h l) m
+      k : Promised z (nameOf (j .name)) (stepRefusal z j) o sent
+      k = subst (λ (n : ℕ). Promised z (nameOf (j .name)) n o sent) (refusal-same p h l) m
 
   -- ---- numbers that are not listed
 
@@ -121,6 +124,7 @@ module _ (z : Zone) (j : Job) where
         jobKept = λ n. refl;
         zoneIs = λ q. absurd (omega arith);
         formedAgain = λ q. absurd (omega arith);
+        spelled = λ q. absurd (omega arith);
         jobIs = λ q. absurd (omega arith);
       }
 
@@ -134,6 +138,7 @@ module _ (z : Zone) (j : Job) where
         jobKept = λ n. refl;
         zoneIs = λ q. absurd (omega arith);
         formedAgain = λ q. absurd (omega arith);
+        spelled = λ q. absurd (omega arith);
         jobIs = λ q. absurd (omega arith);
       }
 
@@ -179,6 +184,7 @@ step-idle z j refusal h i e = record {
   jobKept = λ n. refl;
   zoneIs = λ q. sym (ap (λ (w : State). w .zone) stays);
   formedAgain = λ q. formed-is q;
+  spelled = λ q. spelled-by (nameOf (j .name)) z z (spells-same (nameOf (j .name)) z z refl) (stepOf z j .zone) (sym (ap (λ (w : State). w .zone) stays));
   jobIs = λ q. same-job ∙ ap (λ (w : State). atStage j (w .stage)) (sym stays);
 }
   where
