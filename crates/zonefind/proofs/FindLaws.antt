@@ -14,12 +14,12 @@ use Rattle.octets.proofs.BoolLaws.{and-left, and-right}
 use Rattle.octets.specs.Compare.{sameOctets}
 use Rattle.octets.specs.Count.{Octets}
 use Rattle.dname.specs.Name.{nameOf, isFull, key, sameName}
-use Rattle.zone.specs.Meaning.{used, keyOf, formed}
+use Rattle.zone.specs.Meaning.{used, keyOf, formed, withKey}
 use Rattle.zone.specs.Survey.{named, Surveyed}
 use Rattle.zone.specs.declared.entry.Entry.{Entry}
 use Rattle.zone.specs.declared.survey.Survey.{Survey}
 use Rattle.zone.proofs.SurveyLaws.{blank}
-use Rattle.update.specs.Meaning.{hostOf, look, zoneOf}
+use Rattle.update.specs.Meaning.{hostOf, zoneOf}
 use Rattle.lentzone.specs.Decode.{entryIn, zoneIn, isZone}
 use Rattle.lentzone.specs.Inner.{SurveyedIn, rowAt}
 use Rattle.lentzone.proofs.FormLaws.{zone-octets, zone-form}
@@ -29,12 +29,12 @@ use Rattle.zonefind.specs.Find.{findRefusal, freePlace, placeWith, findE
 
 -- ---- the place with a key
 
-says-look : (k : Octets) (es : List Entry) → standing (placeWith k es) ≡ look es k
-unfolding placeWith look
-says-look k [] = unfold used in refl
-says-look k (e ∷ es) = go (used e) refl (sameOctets (keyOf e) k) (says-look k es)
+says-host : (k : Octets) (es : List Entry) → standing (placeWith k es) ≡ withKey hostOf es k
+unfolding placeWith withKey
+says-host k [] = unfold used in refl
+says-host k (e ∷ es) = go (used e) refl (sameOctets (keyOf e) k) (says-host k es)
   where
-    go : (b : Bool) → used e ≡ b → (c : Bool) → standing (placeWith k es) ≡ look es k → standing (cond (b && c) e (placeWith k es)) ≡ cond (b && c) (some (hostOf e)) (look es k)
+    go : (b : Bool) → used e ≡ b → (c : Bool) → standing (placeWith k es) ≡ withKey hostOf es k → standing (cond (b && c) e (placeWith k es)) ≡ cond (b && c) (some (hostOf e)) (withKey hostOf es k)
     go true u true h = rw u
     go true u false h = h
     go false u c h = h
@@ -112,4 +112,4 @@ module _ (z : List ℕ) (n : Octets) where
 
 pub says-what-stands : SaysWhatStands
 unfolding findEntry zoneOf
-says-what-stands z n e = rw (eq-eqb (findRefusal z (nameOf n)) 0 e) (says-look (key (nameOf n)) (zoneIn z .entries))
+says-what-stands z n e = rw (eq-eqb (findRefusal z (nameOf n)) 0 e) (says-host (key (nameOf n)) (zoneIn z .entries))

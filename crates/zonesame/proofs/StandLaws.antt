@@ -17,16 +17,16 @@ use Rattle.octets.specs.Compare.{sameOctets}
 use Rattle.octets.specs.Count.{Octets, member, distinct}
 use Rattle.dname.specs.Name.{key, nameOf}
 use Rattle.zone.specs.declared.entry.Entry.{Entry}
-use Rattle.zone.specs.Meaning.{used, keyOf, keys, inOrder, allInOrder, formed}
+use Rattle.zone.specs.Meaning.{used, keyOf, keys, withKey, inOrder, allInOrder, formed}
 use Rattle.zone.specs.Survey.{recordsOf, named, placeFrom}
 use Rattle.zone.proofs.SurveyLaws.{blank}
 use Rattle.update.specs.Rules.{Host, there}
-use Rattle.update.specs.Meaning.{hostOf, look, zoneOf}
+use Rattle.update.specs.Meaning.{hostOf, zoneOf}
 use Rattle.update.proofs.ZoneLaws.{some≢none}
 use Rattle.lentzone.specs.Decode.{zoneIn, entryIn}
 use Rattle.lentzone.specs.Inner.{placeIn, rowAt, recordsAt}
 use Rattle.lentzone.proofs.PlaceLaws.{place-at}
-use Rattle.request.proofs.PlaceLaws.{found-host, found-order, not-found, look-keys, look-here, look-past, head-once, tail-distinct}
+use Rattle.request.proofs.PlaceLaws.{found-host, found-order, not-found, with-keys, with-here, with-past, head-once, tail-distinct}
 use Rattle.zonesame.specs.Inner.{sameHost, standsIn, allStand}
 use Rattle.zonesame.proofs.HostLaws.{host-told, host-tells}
 
@@ -126,17 +126,17 @@ module _ (z : List ℕ) (l : length z ≡ 23936) (g : formed (zoneIn z) ≡ true
 
   -- what stands at a key among the places stands there in the zone
   abbrev pub Has : List Entry → Type 0
-  Has es = (k : Octets) (h : Host) → look es k ≡ some h → zoneOf (zoneIn z) .at k ≡ some h
+  Has es = (k : Octets) (h : Host) → withKey hostOf es k ≡ some h → zoneOf (zoneIn z) .at k ≡ some h
 
   pub all-told : (es : List Entry) → allInOrder es ≡ true → allStand z es ≡ true → Has es
-  unfolding allInOrder allStand look
+  unfolding allInOrder allStand withKey
   all-told [] o t k h p = absurd (some≢none (sym p))
   all-told (e ∷ es) o t k h p =
       go (used e) (sameOctets (keyOf e) k) refl (and-left (cond (used e) (inOrder e) true) (allInOrder es) o) (and-left (cond (used e) (standsIn z e) true) (allStand z es) t) p
       (all-told es (and-right (cond (used e) (inOrder e) true) (allInOrder es) o) (and-right (cond (used e) (standsIn z e) true) (allStand z es) t) k h)
     where
-      go : (b c : Bool) → sameOctets (keyOf e) k ≡ c → cond b (inOrder e) true ≡ true → cond b (standsIn z e) true ≡ true → cond (b && c) (some (hostOf e)) (look es k) ≡ some h
-          → (look es k ≡ some h → zoneOf (zoneIn z) .at k ≡ some h) → zoneOf (zoneIn z) .at k ≡ some h
+      go : (b c : Bool) → sameOctets (keyOf e) k ≡ c → cond b (inOrder e) true ≡ true → cond b (standsIn z e) true ≡ true → cond (b && c) (some (hostOf e)) (withKey hostOf es k) ≡ some h
+          → (withKey hostOf es k ≡ some h → zoneOf (zoneIn z) .at k ≡ some h) → zoneOf (zoneIn z) .at k ≡ some h
       go true true s q r w f = ap (zoneOf (zoneIn z) .at) (sym (same-true (keyOf e) k s)) ∙ stands-told e q r ∙ w
       go true false s q r w f = f w
       go false c s q r w f = f w
@@ -149,14 +149,14 @@ module _ (z : List ℕ) (l : length z ≡ 23936) (g : formed (zoneIn z) ≡ true
       (all-tell es (and-right (cond (used e) (inOrder e) true) (allInOrder es) o) (tail-distinct e es d) (λ k h p. f k h (behind k h p)))
     where
       own : (b : Bool) → used e ≡ b → cond b (inOrder e) true ≡ true → cond b (standsIn z e) true ≡ true
-      own true u q = stands-tells e q (f (keyOf e) (hostOf e) (look-here e es (keyOf e) (and-both (used e) _ u (same-self (keyOf e)))))
+      own true u q = stands-tells e q (f (keyOf e) (hostOf e) (with-here hostOf e es (keyOf e) (and-both (used e) _ u (same-self (keyOf e)))))
       own false u q = refl
 
       -- a key that stands behind is not the one in front
-      behind : (k : Octets) (h : Host) → look es k ≡ some h → look (e ∷ es) k ≡ some h
-      behind k h p = cases (used e && sameOctets (keyOf e) k) twice (λ n. look-past e es k n ∙ p)
+      behind : (k : Octets) (h : Host) → withKey hostOf es k ≡ some h → withKey hostOf (e ∷ es) k ≡ some h
+      behind k h p = cases (used e && sameOctets (keyOf e) k) twice (λ n. with-past hostOf e es k n ∙ p)
         where
-          twice : (used e && sameOctets (keyOf e) k) ≡ true → look (e ∷ es) k ≡ some h
+          twice : (used e && sameOctets (keyOf e) k) ≡ true → withKey hostOf (e ∷ es) k ≡ some h
           twice t =
               let r : keyOf e ≡ k = same-true (keyOf e) k (and-right (used e) _ t) in
-              absurd (true≢false (sym (ap there p) ∙ look-keys es k ∙ ap (λ (x : Octets). member x (keys es)) (sym r) ∙ head-once e es (and-left (used e) _ t) d))
+              absurd (true≢false (sym (ap there p) ∙ with-keys hostOf es k ∙ ap (λ (x : Octets). member x (keys es)) (sym r) ∙ head-once e es (and-left (used e) _ t) d))
