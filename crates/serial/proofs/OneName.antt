@@ -16,8 +16,8 @@ use Rattle.addresses.specs.declared.set6.Set6.{Set6}
 use Rattle.addresses.specs.Addresses.{Addresses}
 use Rattle.zone.specs.declared.entry.Entry.{Entry}
 use Rattle.zone.specs.declared.Zone.{Zone}
-use Rattle.zone.specs.Meaning.{used, keyOf, keys, inOrder, allInOrder, formed}
-use Rattle.update.specs.Meaning.{hostOf, look, zoneOf}
+use Rattle.zone.specs.Meaning.{used, keyOf, keys, withKey, inOrder, allInOrder, formed}
+use Rattle.update.specs.Meaning.{hostOf, zoneOf}
 use Rattle.lentzone.specs.Encode.{SizedEntry, SizedEntries, entryOctets, entriesOctets}
 use Rattle.request.proofs.PlaceLaws.{formed-all}
 use Rattle.serial.specs.P12.{pipe, xHost, heldByX, noNames, areOctets, ZoneValue}
@@ -53,10 +53,10 @@ oneName e = record { entries = e ∷ others }
 
 -- ---- the free places
 
-look-free : (n : ℕ) (k : Octets) → look (replicate n free) k ≡ none
-unfolding look used free
-look-free zero k = refl
-look-free (suc n) k = look-free n k
+with-free : {A : Type 0} (tells : Entry → A) (n : ℕ) (k : Octets) → withKey tells (replicate n free) k ≡ none
+unfolding withKey used free
+with-free tells zero k = refl
+with-free tells (suc n) k = with-free tells n k
 
 keys-free : (n : ℕ) → keys (replicate n free) ≡ []
 unfolding keys used free
@@ -123,8 +123,8 @@ module _ (e : Entry) where
         size : length (keys (oneName e .entries)) ≡ 1
         size = ap length keys-held
 
-        at : look (oneName e .entries) ≡ (λ k. cond (sameOctets pipe k) (some (xHost s)) none)
-        at = fun-ext (λ k. unfold look others in rw (u, n, h, look-free 63 k) refl)
+        at : withKey hostOf (oneName e .entries) ≡ (λ k. cond (sameOctets pipe k) (some (xHost s)) none)
+        at = fun-ext (λ k. unfold withKey others in rw (u, n, h, with-free hostOf 63 k) refl)
 
   module _ (u : used e ≡ false) where
     keys-none : keys (oneName e .entries) ≡ []
@@ -138,5 +138,5 @@ module _ (e : Entry) where
     unfolding zoneOf
     zone-none = λ i. record { size = ap length keys-none i; at = at i }
       where
-        at : look (oneName e .entries) ≡ (λ k. none)
-        at = fun-ext (λ k. unfold look others in rw (u, look-free 63 k) refl)
+        at : withKey hostOf (oneName e .entries) ≡ (λ k. none)
+        at = fun-ext (λ k. unfold withKey others in rw (u, with-free hostOf 63 k) refl)
