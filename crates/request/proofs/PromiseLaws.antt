@@ -161,7 +161,7 @@ module _ (z : Zone) (n : Octets) (family policy : ℕ) (request : rules.Zone →
       zone g false t =
           let k = ltb-false place 64 t in
           let h : ¬ (place < 64) = λ q. omega arith in
-          (ap zoneOf (same g h) ∙ c .stays h, ap formed (same g h) ∙ g, spells-same n z (written z place e) (same g h))
+          (ap zoneOf (same g h) ∙ c .stays h, ap formed (same g h) ∙ g, spells-same n z (written z place e) (ap spellingOf (same g h)))
 
   -- a request of a kind is the one that the rules name
   pub promise-same : (other : rules.Zone → Outcome) (r q : Answered) → other (zoneOf z) ≡ request (zoneOf z) → q ≡ r → Promised z n refusal (request (zoneOf z)) r → Promised z n refusal (other (zoneOf z)) q

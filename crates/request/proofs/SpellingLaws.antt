@@ -16,9 +16,9 @@ pub spelled-there : (z : Zone) (k : Octets) → there (spellingOf z k) ≡ there
 unfolding spellingOf zoneOf
 spelled-there z k = with-keys spellsAs (z .entries) k ∙ sym (with-keys hostOf (z .entries) k)
 
--- the zone as it was is spelled as it was
-pub spells-same : (n : Octets) (z after : Zone) → after ≡ z → Spells n z after
-spells-same n z after q k octets e = ap (kept n) (sym (sym (ap (λ (x : Zone). spellingOf x k) q) ∙ e))
+-- a zone that is spelled as it was
+pub spells-same : (n : Octets) (z after : Zone) → spellingOf after ≡ spellingOf z → Spells n z after
+spells-same n z after q k octets e = ap (kept n) (sym (sym (ap (λ (x : Spelling). x k) q) ∙ e))
 
 -- a zone that spells so is spelled by the rule
 pub spelled-by : (n : Octets) (z after : Zone) → Spells n z after → (left : rules.Zone) → zoneOf after ≡ left → spellingOf after ≡ respelled n left (spellingOf z)

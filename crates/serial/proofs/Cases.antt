@@ -8,12 +8,12 @@ use native.Mathlib.Omega.{arith}
 use lib.ListN.{getElem?}
 use Rattle.octets.specs.Compare.{sameOctets}
 use Rattle.dname.specs.Name.{key}
-use Rattle.octets.specs.Count.{member, distinct, Counts}
+use Rattle.octets.specs.Count.{Octets, member, distinct, Counts}
 use Rattle.addresses.specs.Addresses.{Family, four, six, Addresses, nothing, including, excluding}
 use Rattle.octets.proofs.CountLaws.{counts-nothing, counts-list}
 use Rattle.update.specs.Rules.{Host, Zone, there, GoodHost, Form, with, keepOthers, heldBy, empty, requestA, requestB, removeAddress, removeName, withName, withoutName, withAddress, withoutAddress, deleteName}
 use Rattle.job.specs.Jobs.{add, Arguments, End, conflict, gone, ended, Job, fresh, after, afterFirst, afterSecond, step, Sends, hasEnded, sends}
-use Rattle.serial.specs.P12.{pipe, xDhcid, yDhcid, address1, xPipe, xRemoves, yAdds, oneAddress, xHost, heldByX}
+use Rattle.serial.specs.P12.{pipe, xDhcid, yDhcid, address1, xPipe, xRemoves, yAdds, oneAddress, xHost, heldAt, heldByX}
 use Rattle.serial.specs.Demand.{Calls, Promises, noJob, oneMore, start, stepped, verdict, stands, times, nobody, next, Explains, Story, HeldHaveAddress, Serializable}
 use Rattle.update.proofs.ZoneLaws.{some≢none}
 use Rattle.serial.proofs.Demand.{stronger, demand3}
@@ -72,12 +72,12 @@ module _ (s : Addresses) (few : s .count ≤ 4) (counted : Counts (s .count) (s 
       each four = counted
       each six = counts-nothing
 
-  pub form-x : Form (heldByX s)
-  unfolding heldByX member distinct
-  form-x = record {
+  pub form-at : (n : Octets) → Form (heldAt n s)
+  unfolding member distinct
+  form-at n = record {
     few = omega arith;
-    names = record { list = pipe ∷ []; once = refl; number = refl; exactly = λ k. on (sameOctets pipe k) };
-    hosts = λ k h e. host (sameOctets pipe k) h e;
+    names = record { list = n ∷ []; once = refl; number = refl; exactly = λ k. on (sameOctets n k) };
+    hosts = λ k h e. host (sameOctets n k) h e;
   }
     where
       on : (b : Bool) → there (cond b (some (xHost s)) none) ≡ (b || false)
@@ -88,11 +88,16 @@ module _ (s : Addresses) (few : s .count ≤ 4) (counted : Counts (s .count) (s 
       host true h e = let q : xHost s ≡ h = cc in subst GoodHost q good-x
       host false h e = absurd (some≢none (sym e))
 
-pub form-one : Form (heldByX oneAddress)
-form-one = form-x oneAddress (unfold oneAddress in omega arith) (unfold oneAddress in counts-list (address1 ∷ []) (unfold distinct member in refl))
+pub form-one : (n : Octets) → Form (heldAt n oneAddress)
+form-one = form-at oneAddress (unfold oneAddress in omega arith) (unfold oneAddress in counts-list (address1 ∷ []) (unfold distinct member in refl))
+
+pub form-pipe : Form (heldByX oneAddress)
+unfolding heldByX
+form-pipe = form-one pipe
 
 form-none : Form (heldByX nothing)
-form-none = form-x nothing (omega arith) counts-nothing
+unfolding heldByX
+form-none = form-at nothing (omega arith) counts-nothing pipe
 
 abbrev pub newJob : Arguments → Job
 newJob j = record { arguments = j; stage = fresh j }
@@ -112,7 +117,7 @@ module _ (z : Zone) (a b : Arguments) where
   abbrev pub r₄ : Result
   r₄ = stepOf (r₃ .zone) (r₁ .job)
 
-  pub between : Form z → (d e : End) → r₄ .job .stage ≡ ended d → r₃ .job .stage ≡ ended e → Story byRule
+  unfoldable pub between : Form z → (d e : End) → r₄ .job .stage ≡ ended d → r₃ .job .stage ≡ ended e → Story byRule
   unfolding byRule
   between g d e p q = record {
     arguments = a ∷ b ∷ [];
@@ -140,7 +145,7 @@ unfolding heldByX xHost oneAddress xRemoves yAdds pipe xDhcid yDhcid step fresh 
 p12-gone = refl
 
 pub p12 : Story byRule
-p12 = between z₀ xRemoves yAdds form-one gone (conflict 2) (p12-ends .0) (p12-ends .1)
+p12 = between z₀ xRemoves yAdds form-pipe gone (conflict 2) (p12-ends .0) (p12-ends .1)
 
 -- Demand 3 speaks of it.
 pub p12-held : HeldHaveAddress z₀

@@ -9,10 +9,13 @@ pub mod InTime
 -- The calls that run, and those on a zone that is kept as octets.
 pub mod Running
 pub mod OnOctets
--- Lists of steps: P12, and why removes can't be asked to answer alike.
+-- How the names are spelled at the end of a list.
+pub mod Spelled
+-- Lists of steps: P12, why removes can't be asked to answer alike, and names to be spelled alike.
 pub mod Cases
 pub mod RunningCases
 pub mod RemovesDiffer
+pub mod SpellsOtherwise
 -- P12 with every struct written out.
 pub mod OneName
 pub mod P12Zones

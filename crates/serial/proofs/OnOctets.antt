@@ -18,7 +18,7 @@ use Rattle.serial.proofs.Running.{Ok, kept-promises, taken, refused-kee
 use Rattle.lentzone.proofs.EncodeLaws.{same-octets}
 
 -- What a step by value returned that leaves the same. Each step is one of the zone that the octets hold.
-abbrev returned : Left → Stepped
+abbrev pub returned : Left → Stepped
 returned l = record { refusal = l .refusal; zone = zoneIn (l .octets); job = l .job }
 
 step-in : (z : List ℕ) (k : Job) (l : Left) → StepOn z k l → length z ≡ 23936 → StepPromise (zoneIn z) k (returned l)
@@ -40,7 +40,7 @@ size-after : (z : List ℕ) (k : Job) (l : Left) → StepOn z k l → length z �
 size-after z k l (lent after r p) n = p .size ∙ n
 size-after z k l (byValue x r after h p g) n = g .size
 
-unrefused-in : (z : List ℕ) (k : Job) (l : Left) → StepOn z k l → l .refusal ≡ 0 → StepPromise (zoneIn z) k (returned l)
+pub unrefused-in : (z : List ℕ) (k : Job) (l : Left) → StepOn z k l → l .refusal ≡ 0 → StepPromise (zoneIn z) k (returned l)
 unrefused-in z k l p e = step-in z k l p (size-in z k l p e)
 
 pub octets-promises : Promises onOctets

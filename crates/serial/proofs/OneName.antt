@@ -53,7 +53,7 @@ oneName e = record { entries = e ∷ others }
 
 -- ---- the free places
 
-with-free : {A : Type 0} (tells : Entry → A) (n : ℕ) (k : Octets) → withKey tells (replicate n free) k ≡ none
+pub with-free : {A : Type 0} (tells : Entry → A) (n : ℕ) (k : Octets) → withKey tells (replicate n free) k ≡ none
 unfolding withKey used free
 with-free tells zero k = refl
 with-free tells (suc n) k = with-free tells n k

@@ -8,7 +8,7 @@ use native.Mathlib.Omega.{arith}
 use lib.ListN.{length, replicate}
 use Rattle.octets.specs.Compare.{sameOctets}
 use Rattle.addresses.specs.Addresses.{four, nothing}
-use Rattle.dname.specs.Name.{labelsOf, limited, shapeOf, isFull}
+use Rattle.dname.specs.Name.{labelsOf, limited, shapeOf, isFull, nameOf}
 use Rattle.zone.specs.declared.entry.Address.{Address}
 use Rattle.zone.specs.declared.entry.Dhcid.{Dhcid}
 use Rattle.zone.specs.declared.Zone.{Zone}
@@ -22,13 +22,16 @@ use Rattle.job.specs.Meaning.{jobOf, atStage, stageNumber, stageCount, freshAdd
 use Rattle.job.specs.Promise.{newRefusal, newJob}
 use Rattle.step.specs.Promise.{stepRefusal, stepOf, StepPromise}
 use Rattle.step.proofs.AfterLaws.{unrefused}
+use Rattle.update.proofs.ZoneLaws.{some≢none}
+use Rattle.request.specs.Inner.{Spells}
+use Rattle.request.proofs.SpellingLaws.{spells-same, spelled-by}
 use Rattle.serial.specs.Running.{NewCall, newAdd, newRemove, running}
 use Rattle.serial.specs.P12.{pipe, xDhcid, yDhcid, address1, xRemoves, yAdds, oneAddress, xHost, heldByX, noNames, P12, areOctets, JobValue, P12Runs}
 use Rattle.serial.proofs.Running.{Ok, kept-promises, taken}
 use Rattle.serial.proofs.RunningCases.{p12-runs}
-use Rattle.serial.proofs.P12Zones.{pipeName, ofX, full, bare, clear, full-value, bare-value, clear-value, full-formed, bare-formed, clear-formed, full-zone, bare-zone, clear-zone}
+use Rattle.serial.proofs.P12Zones.{pipeName, ofX, full, bare, clear, full-value, bare-value, clear-value, full-formed, bare-formed, clear-formed, full-zone, bare-zone, clear-zone, held-spelled, clear-spelled}
 use Rattle.serial.proofs.P12Steps.{state, x-takes, y-asks, y-conflicts, x-deletes}
-use Rattle.serial.proofs.OneName.{octets-append}
+use Rattle.serial.proofs.OneName.{no4, one4, octets-append}
 
 -- ---- the new jobs
 
@@ -68,6 +71,7 @@ pub record Turn (z w : Zone) (j : Job) (x y : rules.Zone) (m : jobs.Job) (s : St
   goodAgain : formed w ≡ true
   ok : Ok j
   same : y ≡ x → w ≡ z
+  spells : Spells (nameOf (j .name)) z w
 
 module _ {z w : Zone} {j : Job} {x y : rules.Zone} {m : jobs.Job} {s : Stage} (t : Turn z w j x y m s) where
   goes : stepOf z j ≡ state y s
@@ -85,6 +89,7 @@ module _ {z w : Zone} {j : Job} {x y : rules.Zone} {m : jobs.Job} {s : Stage} (t
         jobKept = λ n. absurd (n e);
         zoneIs = λ q. t .to ∙ ap (λ (u : State). u .zone) (sym goes);
         formedAgain = λ q. t .goodAgain;
+        spelled = λ q. spelled-by (nameOf (j .name)) z w (t .spells) (stepOf z j .zone) (t .to ∙ ap (λ (u : State). u .zone) (sym goes));
         jobIs = λ q. ap (λ (u : State). atStage j (u .stage)) (sym goes);
       }
 
@@ -130,6 +135,7 @@ x-first = record {
   goodAgain = bare-formed;
   ok = taken .new-ok xRemoves kx new-x;
   same = address-goes;
+  spells = spells-same (nameOf (kx .name)) full bare (held-spelled no4 (one4 address1));
 }
 
 pub y-first : Turn bare bare ky (heldByX nothing) (heldByX nothing) (record { arguments = yAdds; stage = beforeA 0 }) (beforeB 1)
@@ -142,6 +148,7 @@ y-first = record {
   goodAgain = bare-formed;
   ok = taken .new-ok yAdds ky new-y;
   same = λ e. refl;
+  spells = spells-same (nameOf (ky .name)) bare bare refl;
 }
 
 pub y-second : Turn bare bare ky₂ (heldByX nothing) (heldByX nothing) (record { arguments = yAdds; stage = beforeB 1 }) (ended (conflict 2))
@@ -154,6 +161,7 @@ y-second = record {
   goodAgain = bare-formed;
   ok = next-ok y-first;
   same = λ e. refl;
+  spells = spells-same (nameOf (ky₂ .name)) bare bare refl;
 }
 
 pub x-second : Turn bare clear kx₂ (heldByX nothing) noNames (record { arguments = xRemoves; stage = beforeSecond }) (ended gone)
@@ -166,6 +174,7 @@ x-second = record {
   goodAgain = clear-formed;
   ok = next-ok x-first;
   same = name-goes;
+  spells = λ k octets e. absurd (some≢none (sym e ∙ clear-spelled k));
 }
 
 -- ---- P12

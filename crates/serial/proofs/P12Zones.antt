@@ -2,9 +2,9 @@
 use mathlib.Core.Path.{_≡_, refl, fun-ext}
 use mathlib.Core.Bool.{true}
 use mathlib.Core.List.{_++_, map}
-use mathlib.Core.Option.{some}
+use mathlib.Core.Option.{none, some}
 use lib.ListN.{replicate}
-use Rattle.octets.specs.Count.{member, distinct}
+use Rattle.octets.specs.Count.{Octets, member, distinct}
 use Rattle.addresses.specs.declared.set4.Set4.{Set4}
 use Rattle.addresses.specs.Addresses.{Family, four, six, nothing, octets4, list4, setOf, sound}
 use Rattle.dname.specs.declared.name.Name.{Name}
@@ -12,11 +12,13 @@ use Rattle.dname.specs.Name.{labelsOf, limited, shapeOf, isFull, key}
 use Rattle.zone.specs.declared.entry.Dhcid.{Dhcid}
 use Rattle.zone.specs.declared.entry.Entry.{Entry}
 use Rattle.zone.specs.declared.Zone.{Zone}
-use Rattle.zone.specs.Meaning.{used, keyOf, inOrder, formed}
+use Rattle.zone.specs.Meaning.{used, keyOf, withKey, inOrder, formed}
 use Rattle.update.specs.Meaning.{hostOf, zoneOf}
+use Rattle.update.specs.Spelling.{spellingOf}
+use Rattle.request.proofs.PlaceLaws.{spellsAs}
 use Rattle.lentzone.specs.Encode.{Wide, SizedEntry}
 use Rattle.serial.specs.P12.{pipe, xDhcid, address1, oneAddress, xHost, heldByX, noNames, areOctets, ZoneValue}
-use Rattle.serial.proofs.OneName.{no4, no6, one4, free, free-sized, free-octets, oneName, value-of, formed-held, zone-held, formed-none, zone-none}
+use Rattle.serial.proofs.OneName.{no4, no6, one4, free, free-sized, free-octets, others, oneName, with-free, value-of, formed-held, zone-held, formed-none, zone-none}
 
 unfoldable pub pipeName : Name
 pipeName = record { octets = pipe ++ replicate 249 0; len = 6 }
@@ -94,3 +96,12 @@ bare-zone = held-zone no4
 
 pub clear-zone : zoneOf clear ≡ noNames
 clear-zone = zone-none free (unfold free used in refl)
+
+-- The name is spelled alike whatever its addresses are, and where there is none nothing is.
+pub held-spelled : (s t : Set4) → spellingOf (oneName (heldWith s)) ≡ spellingOf (oneName (heldWith t))
+unfolding spellingOf withKey heldWith used
+held-spelled s t = refl
+
+pub clear-spelled : (k : Octets) → spellingOf clear k ≡ none
+unfolding spellingOf others
+clear-spelled k = with-free spellsAs 64 k

@@ -18,7 +18,7 @@ use Rattle.serial.specs.Demand.{going, times, Story}
 use Rattle.update.proofs.ZoneLaws.{some≢none}
 use Rattle.serial.proofs.Demand.{js}
 use Rattle.serial.specs.P12.{pipe, xDhcid, xRemoves, oneAddress, xHost, heldByX}
-use Rattle.serial.proofs.Cases.{byRule, xAdds, form-one, r₃, r₄, between}
+use Rattle.serial.proofs.Cases.{byRule, xAdds, form-pipe, r₃, r₄, between}
 
 abbrev z₀ : Zone
 z₀ = heldByX oneAddress
@@ -29,11 +29,11 @@ unfolding heldByX xHost xDhcid oneAddress xRemoves xAdds pipe step fresh request
 the-ends = (refl, refl)
 
 pub the-list : Story byRule
-the-list = between z₀ xRemoves xAdds form-one kept (done 2) (the-ends .0) (the-ends .1)
+the-list = between z₀ xRemoves xAdds form-pipe kept (done 2) (the-ends .0) (the-ends .1)
 
 -- ---- a whole job's end is one
 
-more : (j : Arguments) {z : Zone} (s : Stage) {y : Zone} {d : End} → Sends j z s y d → going s ≡ true → Sends j (step j z s .zone) (step j z s .stage) y d
+unfoldable pub more : (j : Arguments) {z : Zone} (s : Stage) {y : Zone} {d : End} → Sends j z s y d → going s ≡ true → Sends j (step j z s .zone) (step j z s .stage) y d
 more j s hasEnded g = absurd (true≢false (sym g))
 more j s (sends h) g = h
 
@@ -44,7 +44,7 @@ stays j s e (sends {z = z} h) p =
     let u : z ≡ step j z (ended e) .zone = unfold step in refl in
     (u ∙ ap (λ (t : Stage). step j z t .zone) (sym p) ∙ m .0, m .1)
 
-two : (j : Arguments) (z y : Zone) (d e : End) (s : Stage) → fresh j ≡ s → going s ≡ true → going (step j z s .stage) ≡ true
+pub two : (j : Arguments) (z y : Zone) (d e : End) (s : Stage) → fresh j ≡ s → going s ≡ true → going (step j z s .stage) ≡ true
     → step j (step j z s .zone) (step j z s .stage) .stage ≡ ended e → Sends j z (fresh j) y d → (step j (step j z s .zone) (step j z s .stage) .zone ≡ y) × (e ≡ d)
 two j z y d e s f g h p m =
     let a : Sends j z s y d = subst (λ (t : Stage). Sends j z t y d) f m in

@@ -6,3 +6,5 @@ pub mod Running
 pub mod OnOctets
 -- P12, and that these calls can make it.
 pub mod P12
+-- How names are spelled after a list of steps.
+pub mod Spelling

@@ -49,9 +49,12 @@ oneAddress = record { count = 1; has = λ a. member a (address1 ∷ []) }
 unfoldable pub xHost : Addresses → Host
 xHost s = record { owner = some xDhcid; addresses = λ f. elim f [ four ↦ s | six ↦ nothing ] }
 
--- The zone with these addresses of X at pipe, and no other name; and the zone without names.
+-- The zone with these addresses of X at the name that has a key, and no other name; this at pipe; and the zone without names.
+abbrev pub heldAt : Octets → Addresses → rules.Zone
+heldAt n s = record { size = 1; at = λ k. cond (sameOctets n k) (some (xHost s)) none }
+
 unfoldable pub heldByX : Addresses → rules.Zone
-heldByX s = record { size = 1; at = λ k. cond (sameOctets pipe k) (some (xHost s)) none }
+heldByX s = heldAt pipe s
 
 abbrev pub noNames : rules.Zone
 noNames = record { size = 0; at = λ k. none }

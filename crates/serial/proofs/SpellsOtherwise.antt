@@ -1,0 +1,225 @@
+-- Why demand 3 can't ask that names are spelled alike: a list of steps that keeps the octets of a name which every order that explains the list
+-- writes anew. Assumes nothing.
+use mathlib.Core.Path.{_≡_, refl, sym, _∙_, ap, subst}
+use mathlib.Core.Bool.{Bool, true, false, cond, true≢false}
+use mathlib.Core.List.{List, [], _∷_}
+use mathlib.Core.Option.{Option, none, some}
+use Prim.Native.Nat.{ℕ, zero, suc}
+use native.Mathlib.Omega.{arith}
+use lib.ListN.{getElem?}
+use Rattle.octets.specs.Compare.{sameOctets}
+use Rattle.octets.specs.Count.{Octets, member}
+use Rattle.dname.specs.Name.{key}
+use Rattle.addresses.specs.Addresses.{including, excluding}
+use Rattle.update.specs.Rules.{Host, Zone, there, with, heldBy, empty, newHost, requestA, left, fits, writeB, requestB, removeAddress, removeName, withName, withoutName, withAddress, withoutAddress, deleteName}
+use Rattle.update.specs.Spelling.{Spelling, kept, respelled}
+use Rattle.update.proofs.ZoneLaws.{some≢none}
+use Rattle.job.specs.Jobs as jobs
+use Rattle.job.specs.Jobs.{Arguments, End, done, gone, Stage, ended, fresh, after, afterFirst, afterSecond, step, Sends, hasEnded, sends}
+use Rattle.serial.specs.Demand.{going, times, InTurn, nobody, next, Explains, Story, Serializable}
+use Rattle.serial.specs.P12.{xDhcid, oneAddress, xHost, heldAt}
+use Rattle.serial.specs.Spelling.{spelledBySteps, spelledByJob, spelledInTurn, OBOE, oboe, xRemovesCapitals, xAddsSmall, SpellsOtherwise}
+use Rattle.serial.proofs.Cases.{byRule, by-rule, form-one, r₃, r₄, between}
+use Rattle.serial.proofs.Demand.{stronger}
+use Rattle.serial.proofs.RemovesDiffer.{more, two}
+
+-- ---- what a job that has ended leaves spelled
+
+respelled-there : (n : Octets) (z : Zone) (sp : Spelling) (k : Octets) → there (respelled n z sp k) ≡ there (z .at k)
+unfolding respelled
+respelled-there n z sp k = go (there (z .at k))
+  where
+    go : (b : Bool) → there (cond b (some (kept n (sp k))) none) ≡ b
+    go true = refl
+    go false = refl
+
+respelled-idle : (n : Octets) (z : Zone) (sp : Spelling) (k : Octets) → there (sp k) ≡ there (z .at k) → respelled n z sp k ≡ sp k
+unfolding respelled
+respelled-idle n z sp k e = go (sp k) (there (z .at k)) e
+  where
+    go : (o : Option Octets) (b : Bool) → there o ≡ b → cond b (some (kept n o)) none ≡ o
+    go none true q = absurd (true≢false (sym q))
+    go none false q = refl
+    go (some x) true q = refl
+    go (some x) false q = absurd (true≢false q)
+
+idle-spelled : (j : Arguments) {z : Zone} (s : Stage) {y : Zone} {d : End} (e : End) (m : Sends j z s y d) → s ≡ ended e → (sp : Spelling) (k : Octets)
+    → there (sp k) ≡ there (z .at k) → spelledByJob m sp k ≡ sp k
+unfolding spelledByJob
+idle-spelled j s e hasEnded p sp k t = refl
+idle-spelled j s e (sends {z = z} h) p sp k t =
+    let q : step j z s .stage ≡ ended e = ap (λ (u : Stage). step j z u .stage) p ∙ (unfold step in refl) in
+    let w : step j z s .zone ≡ z = ap (λ (u : Stage). step j z u .zone) p ∙ (unfold step in refl) in
+    idle-spelled j (step j z s .stage) e h q (respelled (j .update .name) (step j z s .zone) sp) k (respelled-there (j .update .name) (step j z s .zone) sp k)
+    ∙ ap (λ (y : Zone). respelled (j .update .name) y sp k) w ∙ respelled-idle (j .update .name) z sp k t
+
+-- ---- a job that ends with its first request, or with its second
+
+first-spelled : (j : Arguments) {z : Zone} (s : Stage) {y : Zone} {d : End} (m : Sends j z s y d) (g : going s ≡ true) (sp : Spelling)
+    → spelledByJob m sp ≡ spelledByJob (more j s m g) (respelled (j .update .name) (step j z s .zone) sp)
+unfolding spelledByJob more
+first-spelled j s hasEnded g sp = absurd (true≢false (sym g))
+first-spelled j s (sends h) g sp = refl
+
+module _ (j : Arguments) (k : Octets) where
+  abbrev spells : Zone → Spelling → Spelling
+  spells = respelled (j .update .name)
+
+  one-spelled : (z : Zone) (s : Stage) (g : going s ≡ true) (sp : Spelling) (y : Zone) (d e : End) (m : Sends j z s y d) → step j z s .stage ≡ ended e
+      → spelledByJob m sp k ≡ spells (step j z s .zone) sp k
+  one-spelled z s g sp y d e m p =
+      ap (λ (x : Spelling). x k) (first-spelled j s m g sp)
+      ∙ idle-spelled j (step j z s .stage) e (more j s m g) p (spells (step j z s .zone) sp) k (respelled-there (j .update .name) (step j z s .zone) sp k)
+
+  two-spelled : (z : Zone) (s : Stage) (g : going s ≡ true) (sp : Spelling) (y : Zone) (d e : End) (m : Sends j z s y d)
+      → going (step j z s .stage) ≡ true → step j (step j z s .zone) (step j z s .stage) .stage ≡ ended e
+      → spelledByJob m sp k ≡ spells (step j (step j z s .zone) (step j z s .stage) .zone) (spells (step j z s .zone) sp) k
+  two-spelled z s g sp y d e m h p =
+      ap (λ (x : Spelling). x k) (first-spelled j s m g sp)
+      ∙ one-spelled (step j z s .zone) (step j z s .stage) h (spells (step j z s .zone) sp) y d e (more j s m g) p
+
+-- ---- the list
+
+abbrev z₀ : Zone
+z₀ = heldAt oboe oneAddress
+
+abbrev removes : Arguments
+removes = xRemovesCapitals
+
+abbrev adds : Arguments
+adds = xAddsSmall
+
+abbrev both : List Arguments
+both = removes ∷ adds ∷ []
+
+abbrev said : List End
+said = jobs.kept ∷ done 2 ∷ []
+
+abbrev last : Zone
+last = r₄ z₀ removes adds .zone
+
+the-ends : (r₄ z₀ removes adds .job .stage ≡ ended jobs.kept) × (r₃ z₀ removes adds .job .stage ≡ ended (done 2))
+unfolding xRemovesCapitals xAddsSmall OBOE oboe xHost xDhcid oneAddress step fresh requestA requestB removeAddress deleteName removeName writeB fits left after afterFirst afterSecond heldBy sameOctets key newHost withAddress withoutAddress with including excluding withName withoutName empty member
+the-ends = (refl, refl)
+
+unfoldable the-list : Story byRule
+the-list = between z₀ removes adds (form-one oboe) jobs.kept (done 2) (the-ends .0) (the-ends .1)
+
+stands-last : there (last .at (key oboe)) ≡ true
+unfolding xRemovesCapitals xAddsSmall OBOE oboe xHost xDhcid oneAddress step fresh requestA requestB removeAddress deleteName removeName writeB fits left after afterFirst afterSecond heldBy sameOctets key newHost withAddress withoutAddress with including excluding withName withoutName empty member
+stands-last = refl
+
+unfoldable spelled-first : Spelling
+spelled-first k = cond (sameOctets oboe k) (some OBOE) none
+
+-- ---- the remove first: it deletes the name, and the add writes its own
+
+removed : Zone
+removed = step removes (step removes z₀ Stage.beforeFirst .zone) (step removes z₀ Stage.beforeFirst .stage) .zone
+
+remove-spelled : (y : Zone) (d : End) (m : Sends removes z₀ (fresh removes) y d) (sp : Spelling) → (spelledByJob m sp (key oboe) ≡ none) × (removed ≡ y)
+unfolding respelled removed xRemovesCapitals xAddsSmall OBOE oboe xHost xDhcid oneAddress step fresh requestA requestB removeAddress deleteName removeName writeB fits left after afterFirst afterSecond heldBy sameOctets key newHost withAddress withoutAddress with including excluding withName withoutName empty member
+remove-spelled y d m sp =
+    (two-spelled removes (key oboe) z₀ Stage.beforeFirst refl sp y d gone m refl refl, two removes z₀ y d gone Stage.beforeFirst refl refl refl refl m .0)
+
+add-spelled : (w : Zone) (d : End) (m : Sends adds removed (fresh adds) w d) (sp : Spelling) → sp (key oboe) ≡ none → spelledByJob m sp (key oboe) ≡ some oboe
+unfolding respelled removed xRemovesCapitals xAddsSmall OBOE oboe xHost xDhcid oneAddress step fresh requestA requestB removeAddress deleteName removeName writeB fits left after afterFirst afterSecond heldBy sameOctets key newHost withAddress withoutAddress with including excluding withName withoutName empty member
+add-spelled w d m sp e = one-spelled adds (key oboe) removed (Stage.beforeA 0) refl sp w d (done 1) m refl ∙ ap (λ (o : Option Octets). some (kept oboe o)) e
+
+-- ---- the add first: then the remove deletes the name
+
+added : Zone
+added = step adds (step adds z₀ (Stage.beforeA 0) .zone) (step adds z₀ (Stage.beforeA 0) .stage) .zone
+
+add-first : (y : Zone) (d : End) → Sends adds z₀ (fresh adds) y d → added ≡ y
+unfolding added xRemovesCapitals xAddsSmall OBOE oboe xHost xDhcid oneAddress step fresh requestA requestB removeAddress deleteName removeName writeB fits left after afterFirst afterSecond heldBy sameOctets key newHost withAddress withoutAddress with including excluding withName withoutName empty member
+add-first y d m = two adds z₀ y d (done 2) (Stage.beforeA 0) refl refl refl refl m .0
+
+remove-second : (w : Zone) (d : End) → Sends removes added (fresh removes) w d → w .at (key oboe) ≡ none
+unfolding added xRemovesCapitals xAddsSmall OBOE oboe xHost xDhcid oneAddress step fresh requestA requestB removeAddress deleteName removeName writeB fits left after afterFirst afterSecond heldBy sameOctets key newHost withAddress withoutAddress with including excluding withName withoutName empty member
+remove-second w d m = ap (λ (x : Zone). x .at (key oboe)) (sym (two removes added w d gone Stage.beforeFirst refl refl refl refl m .0))
+
+-- ---- every order that explains the list
+
+nobody-left : {x z : Zone} {o : List ℕ} (l : InTurn both said x o z) → times 0 o ≡ 0 → times 1 o ≡ 0 → (o ≡ []) × (x ≡ z) × ((sp : Spelling) → spelledInTurn l sp ≡ sp)
+unfolding times spelledInTurn
+nobody-left nobody h g = (refl, refl, λ sp. refl)
+nobody-left (next zero j e d a b m v t) h g = absurd (omega arith)
+nobody-left (next (suc zero) j e d a b m v t) h g = absurd (omega arith)
+nobody-left (next (suc (suc i)) j e d a b m v t) h g = absurd (some≢none (sym a))
+
+-- the add alone, from where the remove left the zone
+add-left : {x z : Zone} {o : List ℕ} (l : InTurn both said x o z) → times 0 o ≡ 0 → times 1 o ≡ 1 → removed ≡ x → (sp : Spelling) → sp (key oboe) ≡ none
+    → (o ≡ 1 ∷ []) × (spelledInTurn l sp (key oboe) ≡ some oboe)
+unfolding times spelledInTurn
+add-left nobody h g p sp n = absurd (omega arith)
+add-left (next zero j e d a b m v t) h g p sp n = absurd (omega arith)
+add-left (next {x = x} {y = y} (suc zero) j e d a b m v t) h g p sp n =
+    let q : adds ≡ j = cc in
+    let r = nobody-left t (omega arith) (omega arith) in
+    (ap (λ (o : List ℕ). 1 ∷ o) (r .0), ap (λ (s : Spelling). s (key oboe)) (r .2 (spelledByJob m sp)) ∙ spelled q p m)
+  where
+    spelled : adds ≡ j → removed ≡ x → (m : Sends j x (fresh j) y d) → spelledByJob m sp (key oboe) ≡ some oboe
+    spelled q p =
+        subst (λ (u : Arguments). (m : Sends u x (fresh u) y d) → spelledByJob m sp (key oboe) ≡ some oboe) q
+        (subst (λ (u : Zone). (m : Sends adds u (fresh adds) y d) → spelledByJob m sp (key oboe) ≡ some oboe) p (λ m. add-spelled y d m sp n))
+add-left (next (suc (suc i)) j e d a b m v t) h g p sp n = absurd (some≢none (sym a))
+
+-- the remove alone, from where the add left the zone
+remove-left : {x z : Zone} {o : List ℕ} → InTurn both said x o z → times 0 o ≡ 1 → times 1 o ≡ 0 → added ≡ x → z .at (key oboe) ≡ none
+unfolding times
+remove-left nobody h g p = absurd (omega arith)
+remove-left (next {x = x} {y = y} zero j e d a b m v t) h g p =
+    let q : removes ≡ j = cc in
+    let n : Sends removes added (fresh removes) y d = subst (λ (u : Arguments). Sends u added (fresh u) y d) (sym q) (subst (λ (u : Zone). Sends j u (fresh j) y d) (sym p) m) in
+    ap (λ (u : Zone). u .at (key oboe)) (sym (nobody-left t (omega arith) (omega arith) .1)) ∙ remove-second y d n
+remove-left (next (suc zero) j e d a b m v t) h g p = absurd (omega arith)
+remove-left (next (suc (suc i)) j e d a b m v t) h g p = absurd (some≢none (sym a))
+
+only : {z : Zone} {o : List ℕ} (l : InTurn both said z₀ o z) → there (z .at (key oboe)) ≡ true → times 0 o ≡ 1 → times 1 o ≡ 1 → (sp : Spelling)
+    → (o ≡ 0 ∷ 1 ∷ []) × (spelledInTurn l sp (key oboe) ≡ some oboe)
+unfolding times spelledInTurn
+only nobody w h g sp = absurd (omega arith)
+only (next {y = y} zero j e d a b m v t) w h g sp =
+    let q : removes ≡ j = cc in
+    let r = spelled q m in
+    let s = add-left t (omega arith) (omega arith) (r .1) (spelledByJob m sp) (r .0) in
+    (ap (λ (o : List ℕ). 0 ∷ o) (s .0), s .1)
+  where
+    spelled : removes ≡ j → (m : Sends j z₀ (fresh j) y d) → (spelledByJob m sp (key oboe) ≡ none) × (removed ≡ y)
+    spelled q = subst (λ (u : Arguments). (m : Sends u z₀ (fresh u) y d) → (spelledByJob m sp (key oboe) ≡ none) × (removed ≡ y)) q (λ m. remove-spelled y d m sp)
+only {z} (next {y = y} {o = o} (suc zero) j e d a b m v t) w h g sp =
+    let q : adds ≡ j = cc in
+    let n : Sends adds z₀ (fresh adds) y d = subst (λ (u : Arguments). Sends u z₀ (fresh u) y d) (sym q) m in
+    absurd (true≢false (sym w ∙ ap there (remove-left t (omega arith) (omega arith) (add-first y d n))))
+only (next (suc (suc i)) j e d a b m v t) w h g sp = absurd (some≢none (sym a))
+
+by-order : (o : List ℕ) (e : Explains both said z₀ last o) (sp : Spelling) → (o ≡ 0 ∷ 1 ∷ []) × (spelledInTurn (e .inTurn) sp (key oboe) ≡ some oboe)
+by-order o e sp = only (e .inTurn) stands-last (e .each 0 jobs.kept refl) (e .each 1 (done 2) refl) sp
+
+-- ---- the claim
+
+by-list : spelledBySteps byRule (the-list .steps) spelled-first (key oboe) ≡ some OBOE
+unfolding the-list between byRule spelledBySteps spelled-first respelled xRemovesCapitals xAddsSmall OBOE oboe xHost xDhcid oneAddress step fresh requestA requestB removeAddress deleteName removeName writeB fits left after afterFirst afterSecond heldBy sameOctets key newHost withAddress withoutAddress with including excluding withName withoutName empty member
+by-list = refl
+
+held-first : spelled-first (key oboe) ≡ some OBOE
+unfolding spelled-first oboe key sameOctets
+held-first = refl
+
+serial : Serializable byRule the-list
+serial = stronger byRule by-rule the-list .0
+
+-- Theorem: the list ends with OBOE, every order that explains it with oboe, and one does.
+pub spells-otherwise : SpellsOtherwise byRule
+unfolding the-list between byRule
+spells-otherwise = record {
+  story = the-list;
+  jobs = refl;
+  ends = refl;
+  first = spelled-first;
+  held = held-first;
+  byList = by-list;
+  fits = subst (λ (o : List ℕ). Explains both said z₀ last o) (by-order (serial .order) (serial .explains) spelled-first .0) (serial .explains);
+  byOrder = λ o e. by-order o e spelled-first .1;
+}
