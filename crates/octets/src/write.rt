@@ -15,7 +15,8 @@ fn copy(buf: &mut [u8], at: usize, src: &[u8]) -> usize
     let n = src.len();
     let mut i = 0;
     while i < n {
-        buf[at + i] = src[i];
+        let x = src[i];
+        buf[at + i] = x;
         i += 1;
     }
     at + n

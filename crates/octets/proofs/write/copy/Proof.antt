@@ -17,8 +17,8 @@ abbrev μ-loop : tie.MeasureT-loop
 loop-holds : tie.Need-loop-holds Inv-loop μ-loop
 loop-holds c = (omega arith, refl, sym (put-nil (c .args .buf .now) (c .args .at)))
 
-shared-slice-read-buf : tie.Need-shared-slice-read-buf Inv-loop μ-loop
-shared-slice-read-buf c = omega arith
+shared-slice-read-x : tie.Need-shared-slice-read-x Inv-loop μ-loop
+shared-slice-read-x c = omega arith
 
 add-buf : tie.Need-add-buf Inv-loop μ-loop
 add-buf c = omega arith
@@ -56,7 +56,7 @@ copy-spec =
     Inv-loop
     μ-loop
     loop-holds
-    shared-slice-read-buf
+    shared-slice-read-x
     add-buf
     slice-write-buf
     add-i
