@@ -25,12 +25,14 @@ pub fn eight(a: u8, b: u8, c: u8, d: u8, e: u8, f: u8, g: u8, h: u8) -> u64
     four(a, b, c, d) + four(e, f, g, h) * 4294967296
 }
 
-// The bits of eight octets without the one of weight 32 in each.
-const CASELESS: u64 = 0xdfdf_dfdf_dfdf_dfdf;
+// The bit of weight 32 of each of eight octets.
+const CASE_BITS: u64 = 0x2020_2020_2020_2020;
 
-// Eight octets as a number, each without the bit in which a capital letter and the small one differ.
+// Eight octets as a number, a capital letter as the small one. Other octets with the bit of weight 64
+// become one with the octet 32 above them; those under 64, lengths among them, stay.
 pub fn eight_caseless(a: u8, b: u8, c: u8, d: u8, e: u8, f: u8, g: u8, h: u8) -> u64
     ensures { λ r. ⌜ r ≡ value (caseless a ∷ caseless b ∷ caseless c ∷ caseless d ∷ caseless e ∷ caseless f ∷ caseless g ∷ caseless h ∷ []) ⌝ }
 {
-    eight(a, b, c, d, e, f, g, h) & CASELESS
+    let w = eight(a, b, c, d, e, f, g, h);
+    w | ((w >> 1) & CASE_BITS)
 }

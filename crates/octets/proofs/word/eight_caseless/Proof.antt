@@ -1,7 +1,7 @@
 use mathlib.Core.Path.{_∙_, ap}
 use mathlib.Core.List.{[], _∷_}
-use Prim.Native.Nat.{ℕ}
-use lib.Bits.{bitAnd}
+use Prim.Native.Nat.{ℕ, _/_}
+use lib.Bits.{bitAnd, bitOr}
 use borrow.Author.Needs.{needs}
 use Rattle.octets.proofs.WordLaws.{value-caseless}
 use Rattle.octets.proofs.word.eight_caseless.Statement.{statement}
@@ -15,7 +15,7 @@ returns c =
     let s = c .before in
     let a = s .args in
     let f = s .fits in
-    ap (λ (x : ℕ). bitAnd x 0xdfdf_dfdf_dfdf_dfdf) (c .eight .ensures)
+    ap (λ (x : ℕ). bitOr x (bitAnd (x / 2) 0x2020_2020_2020_2020)) (c .eight .ensures)
     ∙ value-caseless (a .a ∷ a .b ∷ a .c ∷ a .d ∷ a .e ∷ a .f ∷ a .g ∷ a .h ∷ [])
         (f .a .fits, (f .b .fits, (f .c .fits, (f .d .fits, (f .e .fits, (f .f .fits, (f .g .fits, (f .h .fits, tt))))))))
 
