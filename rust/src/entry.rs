@@ -5,7 +5,7 @@ use crate::{raw, Addresses, Dhcid, Name};
 /// A name of a zone, with its owner and its addresses.
 #[derive(Clone, PartialEq, Eq, Debug)]
 pub struct Entry {
-    /// The name.
+    /// The name, as it is spelled in the zone.
     pub name: Name,
     /// Who holds it; none where it is static.
     pub owner: Option<Dhcid>,

@@ -107,7 +107,7 @@ impl Job {
         self.stage().is_of_add().then_some(self.0.count)
     }
 
-    /// The name that it is about.
+    /// The name that it is about, spelled as the job was made with it.
     pub fn name(&self) -> Name {
         Name::from_full(self.0.name.as_slice())
     }
@@ -129,7 +129,7 @@ impl Job {
     }
 }
 
-/// Jobs are equal where everything that they tell is.
+/// Jobs are equal where everything that they tell is; their names may be spelled differently.
 impl PartialEq for Job {
     fn eq(&self, other: &Job) -> bool {
         let sent = |job: &Job| (job.stage(), job.requests_sent(), job.policy());

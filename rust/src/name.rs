@@ -22,7 +22,23 @@ use crate::{raw, Refusal};
 /// # Ok::<(), jespurla::ParseNameError>(())
 /// ```
 ///
-/// Names are equal where their octets are equal: `Oboe` and `oboe` are two names.
+/// # Equality
+///
+/// Names are equal, and have one hash, where they are the same with the letters A to Z of ASCII
+/// folded (RFC 4343): `Oboe` and `oboe` are one name. Every other octet counts as itself, also those
+/// above 127. A name keeps the octets that it was made of, and [`as_wire`](Name::as_wire),
+/// [`labels`](Name::labels) and `Display` give them: two spellings are told apart by `as_wire`.
+///
+/// ```
+/// use jespurla::Name;
+///
+/// let [typed, asked] = ["Oboe.stage", "oboe.stage"].map(|text| text.parse::<Name>());
+/// let (typed, asked) = (typed?, asked?);
+/// assert_eq!(typed, asked);
+/// assert_ne!(typed.as_wire(), asked.as_wire());
+/// assert_eq!(typed.to_string(), "Oboe.stage.");
+/// # Ok::<(), jespurla::ParseNameError>(())
+/// ```
 #[derive(Clone)]
 pub struct Name(raw::Name);
 
@@ -68,9 +84,11 @@ impl Name {
     }
 }
 
+/// Equality with A to Z folded; see [the type](Name#equality). The length of a label is below every
+/// letter, so that folding all octets folds the labels alone.
 impl PartialEq for Name {
     fn eq(&self, other: &Name) -> bool {
-        self.as_wire() == other.as_wire()
+        self.as_wire().eq_ignore_ascii_case(other.as_wire())
     }
 }
 
@@ -78,7 +96,9 @@ impl Eq for Name {}
 
 impl Hash for Name {
     fn hash<H: Hasher>(&self, state: &mut H) {
-        self.as_wire().hash(state);
+        let mut folded = self.0;
+        folded.octets.make_ascii_lowercase();
+        folded.as_slice().hash(state);
     }
 }
 

@@ -20,7 +20,7 @@ impl<'r> NameReply<'r> {
         answered(self.octets[0])
     }
 
-    /// The name, a full one.
+    /// The name, a full one, octet for octet.
     pub fn name(self) -> Name {
         Name::from_full(&self.octets[1..])
     }

@@ -37,10 +37,11 @@ numbers! {
 
 /// # Requests
 ///
-/// A request that does not answer [`Answer::NoError`] changes nothing.
+/// A request that does not answer [`Answer::NoError`] changes nothing, and none changes how a name
+/// that stands is [spelled](Zone#how-names-are-spelled).
 impl Zone {
-    /// A: adds an absent name, held by the owner, with the address. [`Answer::YxDomain`] where the
-    /// name is there; [`Answer::NoRoom`] where it would be the 65th.
+    /// A: adds an absent name, spelled as here, held by the owner, with the address.
+    /// [`Answer::YxDomain`] where the name is there; [`Answer::NoRoom`] where it would be the 65th.
     ///
     /// # Errors
     ///

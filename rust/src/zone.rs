@@ -52,11 +52,36 @@ use crate::{raw, Entry, Name, Refusal, Standing};
 /// every request and step keeps it. As names, addresses and policies have types of their own too,
 /// the calls on a zone are refused only where its memory has been damaged.
 ///
+/// # How names are spelled
+///
+/// The calls compare names as [`Name`] does, so a zone has no two names that differ only in the case
+/// of letters. A name keeps the octets that it was first written with, by request A or among the
+/// entries that the zone was made of, for as long as it stands, whatever letters later requests
+/// have. Where it was deleted and is added again, it has the new ones. [`Zone::entries`] gives them.
+///
+/// ```
+/// use jespurla::{Dhcid, Entry, Name, Policy, Zone};
+/// use std::net::{Ipv4Addr, Ipv6Addr};
+///
+/// let (typed, asked): (Name, Name) = ("Oboe.stage".parse()?, "oboe.stage".parse()?);
+/// let owner = Dhcid::new([7; 35]);
+/// let mut zone = Zone::new();
+/// zone.request_a(&typed, &owner, Ipv4Addr::new(10, 0, 0, 7))?;
+/// zone.request_b(&asked, &owner, Ipv6Addr::LOCALHOST, Policy::KeepOthers)?;
+/// assert_eq!(zone.find(&asked)?, zone.find(&typed)?);
+///
+/// let entry = zone.entries().find(|entry| entry.name == asked).expect("it stands");
+/// assert_eq!(entry.name.to_string(), "Oboe.stage.");
+/// let other = Zone::from_entries([Entry { name: asked, ..entry }])?;
+/// assert_eq!(zone, other);
+/// # Ok::<(), Box<dyn std::error::Error>>(())
+/// ```
+///
 /// # Equality
 ///
 /// Zones are equal where they have the same names, with the same owner at each and the same
-/// addresses of each family. Which place a name has and what stands in places that are free does
-/// not matter, although [`Zone::as_bytes`] shows it.
+/// addresses of each family. Which place a name has, how it is spelled and what stands in places
+/// that are free does not matter, although [`Zone::as_bytes`] shows it.
 #[repr(transparent)]
 #[derive(Clone)]
 pub struct Zone(pub(crate) raw::Zone);
@@ -79,7 +104,7 @@ impl Zone {
     ///
     /// # Errors
     ///
-    /// [`Refusal::Zone`] where there are over 64, or two are equal.
+    /// [`Refusal::Zone`] where there are over 64, or two are equal, as `Oboe` and `oboe` are.
     ///
     /// # Examples
     ///
@@ -154,7 +179,7 @@ impl Zone {
         Refusal::check(told.refusal)
     }
 
-    /// What stands at a name.
+    /// What stands at a name, in whatever letters the zone has it.
     ///
     /// # Errors
     ///
@@ -164,7 +189,8 @@ impl Zone {
         Refusal::check(told.refusal).map(|()| Standing::of(&told.entry))
     }
 
-    /// The names, each with its owner and its addresses, in no order that means anything.
+    /// The names as they are spelled in the zone, each with its owner and its addresses, in no order
+    /// that means anything.
     pub fn entries(&self) -> impl Iterator<Item = Entry> + '_ {
         self.0.entries.iter().filter_map(Entry::of)
     }

@@ -8,8 +8,12 @@ const X: Dhcid = Dhcid::new([b'X'; 35]);
 const Y: Dhcid = Dhcid::new([b'Y'; 35]);
 const V4: Ipv4Addr = Ipv4Addr::new(10, 0, 0, 7);
 
+fn name(text: &str) -> Name {
+    text.parse().expect("a name")
+}
+
 fn pipe7() -> Name {
-    "pipe7.stage".parse().expect("a name")
+    name("pipe7.stage")
 }
 
 fn add(owner: &Dhcid) -> Job {
@@ -49,7 +53,7 @@ fn adds_end_done_in_conflict_or_without_room() {
     let others = stages(add(&Y), &mut held());
     assert_eq!(others, [AddBeforeA, AddBeforeB, AddConflict]);
     let full = (0..64).map(|number| Entry {
-        name: format!("oboe{number}").parse().expect("a name"),
+        name: name(&format!("oboe{number}")),
         owner: None,
         addresses: Addresses::EMPTY,
     });
@@ -104,6 +108,34 @@ fn an_add_gives_up_after_six_requests() -> Result<(), Refusal> {
     Ok(())
 }
 
+/// Whole jobs, each in other letters: the first add says how the name is spelled, the others find
+/// it.
+#[test]
+fn jobs_find_a_name_in_whatever_letters() {
+    let [typed, asked, again] = ["Pipe7.Stage", "PIPE7.stage", "pIPE7.sTAGE"].map(name);
+    let other = Ipv4Addr::new(10, 0, 0, 8);
+    let mut zone = Zone::new();
+    let mut run = |job: Result<Job, Refusal>| {
+        let job = job.expect("a sound job").run(&mut zone).expect("sound");
+        let spelled = zone.entries().map(|entry| entry.name.to_string()).next();
+        (job.stage(), job.name().to_string(), spelled)
+    };
+    let told = |stage, job: &Name, zone: Option<&Name>| {
+        (stage, job.to_string(), zone.map(Name::to_string))
+    };
+    let keep = Policy::KeepOthers;
+    let done = |job, zone| told(Stage::AddDone, job, Some(zone));
+    assert_eq!(run(Job::add(&typed, &X, V4, keep)), done(&typed, &typed));
+    assert_eq!(run(Job::add(&asked, &X, other, keep)), done(&asked, &typed));
+    let conflict = told(Stage::AddConflict, &again, Some(&typed));
+    assert_eq!(run(Job::add(&again, &Y, V4, keep)), conflict);
+    let kept = told(Stage::RemoveKept, &again, Some(&typed));
+    assert_eq!(run(Job::remove(&again, &X, V4)), kept);
+    let gone = told(Stage::RemoveGone, &asked, None);
+    assert_eq!(run(Job::remove(&asked, &X, other)), gone);
+    assert_eq!(run(Job::add(&again, &Y, V4, keep)), done(&again, &again));
+}
+
 #[test]
 fn a_job_tells_what_it_was_made_of() {
     let (add, remove) = (add(&X), remove(&X));
@@ -115,6 +147,9 @@ fn a_job_tells_what_it_was_made_of() {
     assert_eq!((add.requests_sent(), add.has_ended()), (Some(0), false));
     assert_eq!((remove.policy(), remove.requests_sent()), (None, None));
     assert_ne!(add, remove);
+    let other = Job::remove(&name("Pipe7.stage"), &X, V4).expect("a sound job");
+    assert_eq!((&other, &other.name()), (&remove, &pipe7()));
+    assert_ne!(other.name().as_wire(), pipe7().as_wire());
     let text = format!("{add:?}");
     assert!(text.contains("AddBeforeA") && text.contains("pipe7.stage.") && text.len() < 250);
 }

@@ -45,6 +45,18 @@ fn names_are_answered() {
 }
 
 #[test]
+fn names_are_answered_octet_for_octet() {
+    let full = b"\x00\x05Pipe7\x04oBoE\x00";
+    assert_eq!(answer(full), Ok(full.to_vec()));
+    let mut reply = [9; 256];
+    let suffix = "Stage.".parse().expect("a name");
+    let told = name_option_answer(b"\x01\x05pIPE7", &suffix, true, false, &mut reply);
+    let told = told.expect("a sound option");
+    assert_eq!(told.as_bytes(), b"\x01\x05pIPE7\x05Stage\x00");
+    assert_eq!(told.name().as_wire(), b"\x05pIPE7\x05Stage\x00");
+}
+
+#[test]
 fn options_are_refused() {
     let mut short = [9; 255];
     let told = name_option_answer(b"", &suffix(), true, true, &mut short);

@@ -1,6 +1,7 @@
 //! Names in presentation form and as they stand in messages.
 
 use std::collections::HashSet;
+use std::hash::{BuildHasher, BuildHasherDefault, DefaultHasher};
 
 use jespurla::{Name, ParseNameError, Refusal};
 
@@ -38,6 +39,22 @@ fn labels(lengths: &[usize]) -> Vec<u8> {
     let mut wire: Vec<u8> = lengths.iter().flat_map(label).collect();
     wire.push(0);
     wire
+}
+
+/// Whether the names are equal, and their hashes with them.
+fn are_equal(left: &Name, right: &Name) -> bool {
+    let hash = |name| BuildHasherDefault::<DefaultHasher>::default().hash_one(name);
+    let equal = left == right;
+    assert_eq!(equal, hash(left) == hash(right), "{left} {right}");
+    equal
+}
+
+/// What an octet counts as: one from 65 to 90 as the one 32 above it, any other as itself.
+fn folded(octet: &u8) -> u8 {
+    match octet {
+        65..=90 => octet + 32,
+        _ => *octet,
+    }
 }
 
 /// Reads a name, prints it and reads it again.
@@ -92,7 +109,7 @@ fn every_octet_is_printed_and_read_back() {
         let written: Name = format!("{escaped}.{escaped}{escaped}")
             .parse()
             .expect("digits");
-        assert_eq!(written, name);
+        assert_eq!(written.as_wire(), name.as_wire());
     }
 }
 
@@ -173,13 +190,62 @@ fn octets_that_are_no_full_name_are_refused() {
 }
 
 #[test]
-fn names_are_equal_where_their_octets_are() {
+fn octets_count_as_themselves_but_for_capital_letters() {
+    let of = |octet| Name::from_wire(&[1, octet, 0]).expect("a full name");
+    let pairs = (0..=255).flat_map(|left| (0..=255).map(move |right| (left, right)));
+    let mut equal = 0;
+    for (left, right) in pairs {
+        let told = are_equal(&of(left), &of(right));
+        assert_eq!(told, folded(&left) == folded(&right), "{left} {right}");
+        equal += usize::from(told);
+    }
+    assert_eq!(equal, 256 + 2 * 26);
+}
+
+#[test]
+fn the_longest_names_are_compared_to_their_end() {
+    let longest = |wire: &[u8]| Name::from_wire(wire).expect("a full name");
+    let mut wire = labels(&[63, 63, 63, 61]);
+    let small = longest(&wire);
+    assert!(are_equal(&small, &longest(&wire.to_ascii_uppercase())));
+    wire[253] = b'A';
+    assert!(are_equal(&small, &longest(&wire)));
+    wire[253] = b'B';
+    assert!(!are_equal(&small, &longest(&wire)));
+}
+
+/// One bit of a name is changed, in a label or in the length of one: often the bit in which the two
+/// forms of a letter differ.
+#[test]
+fn random_names_are_equal_where_their_folded_octets_are() {
+    let mut random = Random(0x0f1e_2d3c_4b5a_6971);
+    let mut seen = [0; 2];
+    for _ in 0..50_000 {
+        let wire = random.wire();
+        let mut other = wire.clone();
+        other[random.below(wire.len())] ^= [32, 1, 64, 128][random.below(4)];
+        let Ok(name) = Name::from_wire(&other) else {
+            continue;
+        };
+        let told = are_equal(&Name::from_wire(&wire).expect("a full name"), &name);
+        assert!(told == wire.iter().map(folded).eq(other.iter().map(folded)));
+        assert_eq!(name.as_wire(), other);
+        seen[usize::from(told)] += 1;
+    }
+    assert!(seen.iter().all(|&count| count > 1_000), "{seen:?}");
+}
+
+#[test]
+fn names_are_equal_in_whatever_letters() {
     let name = |text: &str| text.parse::<Name>().expect("a name");
     assert_eq!(name("oboe.stage"), name(r"o\098oe.stage."));
-    assert_ne!(name("oboe.stage"), name("Oboe.stage"));
+    assert_eq!(name("oboe.stage"), name(r"\079bOE.Stage"));
     assert_ne!(name("oboe.stage"), name(r"oboe\.stage"));
+    assert_ne!(name(r"\196"), name(r"\228"));
     let set: HashSet<Name> = ["a", "a.", "A", "b"].map(name).into_iter().collect();
-    assert_eq!(set.len(), 3);
+    assert_eq!(set.len(), 2);
+    assert_eq!(name("Oboe.Stage").to_string(), "Oboe.Stage.");
+    assert_eq!(name("Oboe").labels().next(), Some(&b"Oboe"[..]));
     assert_eq!(format!("{:?}", name("a.b")), "Name(a.b.)");
     assert_eq!(
         name(r"a\.b.c").labels().collect::<Vec<_>>(),

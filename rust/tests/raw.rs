@@ -194,6 +194,28 @@ fn zones_are_the_same_at_whichever_places() {
     assert_eq!(told(&broken, &zone), (17, 0));
 }
 
+#[test]
+fn names_are_compared_folded_and_keep_their_octets() {
+    let (small, zone) = (pipe7(), held());
+    let capital = Name::new(b"\x05PIPE7\x05Stage\x00").expect("13 octets");
+    let spelled = |zone: &Zone| zone_find(zone, &capital).entry.name;
+    assert_eq!(spelled(&zone), small);
+    let moved = request_b(&zone, &capital, &X, FAMILY_4, &HERE, ONLY_THIS).zone;
+    assert_eq!(spelled(&moved), small);
+    let bare = request_remove_address(&moved, &capital, &X, FAMILY_4, &HERE).zone;
+    assert_eq!(spelled(&bare), small);
+    let gone = request_remove_name(&bare, &capital, &X, FAMILY_4, &HERE).zone;
+    let again = request_a(&gone, &capital, &X, FAMILY_6, &HERE).zone;
+    assert_eq!(spelled(&again), capital);
+    let same = zone_same(&zone, &again);
+    assert_eq!((same.refusal, same.same), (0, 1));
+    let mut both = again;
+    let free = both.entries.iter_mut().find(|entry| entry.kind == FREE);
+    *free.expect("a free place") = zone_find(&zone, &small).entry;
+    assert_eq!(zone_check(&both, &small, FAMILY_6, KEEP_OTHERS).refusal, 17);
+    assert_eq!(zone_find(&both, &small).refusal, 17);
+}
+
 /// X removes its only address, Y adds in between, with steps of both kinds.
 #[test]
 fn two_boxes_jobs_are_mixed() {

@@ -112,11 +112,65 @@ fn there_is_room_for_so_much() {
 fn what_stands_at_a_name_is_told() {
     let zone = zone();
     assert_eq!(zone.find(&name("oboe.stage")), Ok(Standing::Absent));
-    assert_eq!(zone.find(&name("Pipe7.stage")), Ok(Standing::Absent));
     let addresses = set(&[V4.into()]);
     assert_eq!(zone.find(&desk().name), Ok(Standing::Static(addresses)));
     let (owner, addresses) = (X, set(&[V6.into()]));
     assert_eq!(zone.find(&pipe7()), Ok(Standing::Held { owner, addresses }));
+    assert_eq!(zone.find(&name("Pipe7.STAGE")), zone.find(&pipe7()));
+    assert_eq!(zone.find(&name("DESK.stage")), zone.find(&desk().name));
+}
+
+/// The library finds a name exactly where `==` of names says so, whichever octet it has.
+#[test]
+fn names_are_found_where_they_are_equal() {
+    let of = |octet| Name::from_wire(&[1, octet, 0]).expect("a full name");
+    for octet in 0..=255 {
+        let name = of(octet);
+        let zone = Zone::from_entries([Entry { name, ..desk() }]).expect("one name");
+        let found = (0..=255).filter(|&other| zone.find(&of(other)) != Ok(Standing::Absent));
+        let equal = (0..=255).filter(|&other| of(other) == of(octet));
+        assert!(found.eq(equal), "{octet}");
+    }
+}
+
+/// The names of a zone, as they are spelled there.
+fn spelled(zone: &Zone) -> Vec<String> {
+    zone.entries().map(|entry| entry.name.to_string()).collect()
+}
+
+#[test]
+fn a_name_keeps_its_octets_for_as_long_as_it_stands() {
+    let (done, mut zone) = (Ok(Answer::NoError), Zone::new());
+    let [typed, asked, again] = ["Oboe.Stage", "oboe.stage", "OBOE.stage"].map(name);
+    assert_eq!(zone.request_a(&typed, &X, V4), done);
+    assert_eq!(spelled(&zone), ["Oboe.Stage."]);
+    let before = zone.clone();
+    assert_eq!(zone.request_a(&asked, &Y, V4), Ok(Answer::YxDomain));
+    assert_eq!(zone.request_b(&asked, &X, V4, Policy::OnlyThis), done);
+    assert_eq!(zone.as_bytes(), before.as_bytes());
+    assert_eq!(zone.request_b(&asked, &X, V6, Policy::OnlyThis), done);
+    assert_eq!(spelled(&zone), ["Oboe.Stage."]);
+    assert_eq!(zone.request_remove_address(&again, &X, V6), done);
+    assert_eq!(spelled(&zone), ["Oboe.Stage."]);
+    assert_eq!(zone.request_remove_name(&asked, &X), done);
+    assert!(zone.is_empty());
+    assert_eq!(zone.request_a(&again, &X, V4), done);
+    assert_eq!(spelled(&zone), ["OBOE.stage."]);
+}
+
+#[test]
+fn how_names_are_spelled_does_not_count() {
+    let with = |text| Entry {
+        name: name(text),
+        ..desk()
+    };
+    let zone_with = |text| Zone::from_entries([with(text)]).expect("one name");
+    assert_eq!(zone_with("Oboe.stage"), zone_with("oboe.STAGE"));
+    assert_ne!(zone_with("oboe.stage"), zone_with("oboe.stagE2"));
+    let left = Zone::from_entries(["Oboe", "PIPE7"].map(with)).expect("two names");
+    let right = Zone::from_entries(["pipe7", "oboe"].map(with)).expect("two names");
+    assert_ne!(left.as_bytes(), right.as_bytes());
+    assert_eq!(left, right);
 }
 
 #[test]
@@ -133,6 +187,12 @@ fn the_names_are_listed_and_make_the_zone_again() {
 #[test]
 fn names_that_make_no_zone_are_refused() {
     assert_eq!(Zone::from_entries([desk(), desk()]), Err(Refusal::Zone));
+    let capital = Entry {
+        name: name("Desk.stage"),
+        owner: Some(X),
+        addresses: Addresses::EMPTY,
+    };
+    assert_eq!(Zone::from_entries([desk(), capital]), Err(Refusal::Zone));
     let numbered = |number: usize| Entry {
         name: name(&format!("pipe{number}")),
         ..desk()
@@ -224,6 +284,21 @@ fn octets_that_are_no_zone_are_refused() {
     assert_eq!(Zone::from_bytes_mut(&mut octets), Err(Refusal::Zone));
     let twice = zone().as_bytes()[..PLACE].repeat(NAMES_MAX);
     assert_eq!(Zone::from_bytes(&twice), Err(Refusal::Zone));
+}
+
+/// The names have 255 octets and differ in the last one. Beside the letters stand signs that differ
+/// from each other as the two forms of a letter do.
+#[test]
+fn long_names_that_differ_only_in_case_are_refused() {
+    let label = "a".repeat(63);
+    let long = |last: &str| Entry {
+        name: name(&format!("{label}.{label}.{label}.{}{last}", "a".repeat(60))),
+        ..desk()
+    };
+    assert_eq!(long("a").name.as_wire().len(), 255);
+    assert_eq!(Zone::from_entries(["a", "A"].map(long)), Err(Refusal::Zone));
+    assert!(Zone::from_entries(["a", "B"].map(long)).is_ok());
+    assert!(Zone::from_entries(["@", "`", "[", "{"].map(long)).is_ok());
 }
 
 #[test]

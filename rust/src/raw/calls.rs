@@ -237,8 +237,8 @@ pub fn lease_query(
     }
 }
 
-/// What stands at a name: a copy, octet for octet, of the one entry that has it, or zeros where the
-/// name is absent.
+/// What stands at a name: a copy, octet for octet, of the one entry that has it, in whatever letters,
+/// or zeros where the name is absent.
 ///
 /// Refusals, in the order in which they are tried: 17 the zone breaks its form; 11 a name that is
 /// not full.
@@ -250,7 +250,7 @@ pub fn zone_find(zone: &Zone, name: &Name) -> FindAnswer {
 }
 
 /// Whether two zones have the same names, with the same owner at each and the same addresses of
-/// each family, at whichever places and in whatever order.
+/// each family, at whichever places, in whatever letters and in whatever order.
 ///
 /// Refusal: 17 where one of the zones breaks its form.
 #[inline]

@@ -2,7 +2,8 @@
 //! have no gaps.
 
 /// A domain name as it stands in a message; octets from `length` on are not
-/// looked at.
+/// looked at. The calls compare names with A to Z folded, `==` compares every
+/// octet of the struct.
 #[repr(C)]
 #[derive(Clone, Copy, PartialEq, Eq, Debug)]
 pub struct Name {
@@ -114,7 +115,8 @@ impl Entry {
     };
 }
 
-/// Which place a name has does not matter, and freed places serve again.
+/// Which place a name has does not matter, and freed places serve again. A name
+/// keeps the octets that it was first written with for as long as it stands.
 #[repr(C)]
 #[derive(Clone, Copy, Debug)]
 pub struct Zone {
@@ -135,7 +137,8 @@ impl Zone {
 pub struct FindAnswer {
     /// 0 for none.
     pub refusal: u32,
-    /// A copy of the entry, octet for octet; zeros where the name is absent or the call is refused.
+    /// A copy of the entry, octet for octet, its name as it is spelled in the zone; zeros where the
+    /// name is absent or the call is refused.
     pub entry: Entry,
 }
 
