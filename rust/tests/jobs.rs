@@ -136,6 +136,29 @@ fn jobs_find_a_name_in_whatever_letters() {
     assert_eq!(run(Job::add(&again, &Y, V4, keep)), done(&again, &again));
 }
 
+/// A remove of the only address, and an add of it between the two requests. Of the two orders of
+/// whole jobs only the remove first explains the end, and it leaves the name in the add's letters.
+#[test]
+fn an_order_of_whole_jobs_may_leave_other_letters() -> Result<(), Refusal> {
+    let add = Job::add(&name("PIPE7.stage"), &X, V4, Policy::KeepOthers)?;
+    let spelled = |zone: &Zone| zone.entries().map(|entry| entry.name.to_string()).next();
+    let mut mixed = held();
+    let half = remove(&X).step(&mut mixed)?;
+    assert_eq!(add.clone().run(&mut mixed)?.stage(), Stage::AddDone);
+    assert_eq!(half.run(&mut mixed)?.stage(), Stage::RemoveKept);
+    let mut remove_first = held();
+    remove(&X).run(&mut remove_first)?;
+    assert_eq!(add.clone().run(&mut remove_first)?.stage(), Stage::AddDone);
+    let mut add_first = held();
+    add.run(&mut add_first)?;
+    remove(&X).run(&mut add_first)?;
+    assert_ne!(mixed, add_first);
+    assert_eq!(mixed, remove_first);
+    assert_eq!(spelled(&mixed).as_deref(), Some("pipe7.stage."));
+    assert_eq!(spelled(&remove_first).as_deref(), Some("PIPE7.stage."));
+    Ok(())
+}
+
 #[test]
 fn a_job_tells_what_it_was_made_of() {
     let (add, remove) = (add(&X), remove(&X));
