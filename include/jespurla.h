@@ -302,7 +302,12 @@ jespurla_lease_answer jespurla_lease_query(jespurla_moment clock,
  * little stack. The others take the zone by value and hand the next one back.
  */
 
-/* A domain name as it stands in a message; octets from length on are not looked at. */
+/*
+ * A domain name as it stands in a message; octets from length on are not looked at. Names are equal
+ * where they are the same with the letters A to Z of ASCII folded (RFC 4343): octets 65 to 90 count
+ * as 97 to 122, so that Oboe and oboe are one name, and every other octet counts as itself, also
+ * those above 127. Every call on a zone compares names in this way.
+ */
 typedef struct {
     uint8_t octets[JESPURLA_NAME_MAX];
     uint8_t length;
@@ -344,7 +349,8 @@ typedef struct {
 /*
  * A zone of zeros is empty. Which place a name has does not matter, and freed places serve again. A
  * zone breaks its form where an entry has a kind not listed, a name that is not full, a count over
- * 4 or two equal addresses, or where two names are equal. Names are equal where their octets are.
+ * 4 or two equal addresses, or where two names are equal, also those that differ only in the case
+ * of letters. A name keeps the octets that it was first written with for as long as it stands.
  * No request makes a static name or changes one: the caller writes its entry into a free place.
  */
 typedef struct {
@@ -369,8 +375,9 @@ typedef struct {
  * zone, length: the zone and its size, sizeof(jespurla_zone). It is only read.
  * name: a full name.
  *
- * The rule: entry is a copy, octet for octet, of the one entry that has the name; its kind tells a
- * static name from a held one. Where the name is absent, entry is zeros, of kind JESPURLA_FREE.
+ * The rule: entry is a copy, octet for octet, of the one entry that has the name, in whatever
+ * letters; its kind tells a static name from a held one, and its name is spelled as in the zone.
+ * Where the name is absent, entry is zeros, of kind JESPURLA_FREE.
  * Refusals: 17 the length is not that of a zone, or the zone breaks its form; 11 a name that is not
  * full.
  */
@@ -383,14 +390,14 @@ typedef struct {
 } jespurla_same_answer;
 
 /*
- * Whether two zones mean the same. memcmp says that they differ where only places differ, or octets
- * that are not looked at.
+ * Whether two zones mean the same. memcmp says that they differ where only places differ, the case
+ * of letters in names, or octets that are not looked at.
  *
  * left, left_length, right, right_length: the zones and their sizes. They are only read, and may be
  * one and the same.
  *
- * The rule: same is 1 exactly if both have the same names, with the same owner at each (a static
- * name has none) and the same addresses of each family, in whatever order.
+ * The rule: same is 1 exactly if both have the same names, in whatever letters, with the same owner
+ * at each (a static name has none) and the same addresses of each family, in whatever order.
  * Refusals: 17 a length is not that of a zone, or one of the zones breaks its form.
  */
 jespurla_same_answer jespurla_zone_same(const jespurla_zone *left, size_t left_length,
@@ -448,14 +455,15 @@ typedef struct {
  *
  * What changes: a request that does not answer NOERROR changes nothing. Names, owners and addresses
  * are afterwards those of the rule below, and the zone keeps its form; which place a new name gets
- * is left open. At most one entry of a lent zone is written, and no octet of another changes. Where
- * by the rule nothing changes, every octet of the zone keeps its value: a request that does not
- * succeed, an address to delete that is not there, an address to add that is there with no other to
- * delete.
+ * is left open. A name that stands keeps its octets, whatever letters the request has. At most one
+ * entry of a lent zone is written, and no octet of another changes. Where by the rule nothing
+ * changes, every octet of the zone keeps its value: a request that does not succeed, an address to
+ * delete that is not there, an address to add that is there with no other to delete.
  */
 
-/* A: adds an absent name, held by the DHCID, with the address. YXDOMAIN where the name is there;
- * NO_ROOM where it would be the 65th. */
+/* A: adds an absent name, in the octets of the request, held by the DHCID, with the address. A name
+ * that was deleted has the new octets. YXDOMAIN where the name is there; NO_ROOM where it would be
+ * the 65th. */
 jespurla_request_answer jespurla_request_a_lent(jespurla_zone *zone, size_t length,
                                                 jespurla_name name, jespurla_dhcid dhcid,
                                                 uint8_t family, jespurla_address address);
@@ -586,7 +594,7 @@ typedef struct {
  * What changes is what the request changes, as above. Of all the steps together: however the steps
  * of any jobs are mixed, some order of the whole jobs, adds without room and those that gave up
  * left out, ends with the same names, owners and addresses and the same answer to every add: the
- * jobs are serializable (docs/DEMAND-3.md).
+ * jobs are serializable (docs/DEMAND-3.md). That order may leave a name in other letters.
  */
 jespurla_step_answer jespurla_job_step_lent(jespurla_zone *zone, size_t length, jespurla_job job);
 
