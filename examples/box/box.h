@@ -46,7 +46,8 @@ jespurla_name name_of(const char *labels);
 jespurla_dhcid dhcid_of(char client);
 const char *answer_text(uint32_t answer);
 const char *stage_text(uint8_t stage);
-/* A line of what was found at a name; an entry that is found is a copy of the one in the zone. */
+/* A line of what was found at a name; an entry that is found is a copy of the one in the zone, and
+ * its name is printed as it is spelled there. */
 void print_entry(jespurla_name name, const jespurla_entry *entry);
 /* Looks the name up in the zone and prints that line. */
 void print_found(const jespurla_zone *zone, jespurla_name name);

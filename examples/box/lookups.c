@@ -46,6 +46,18 @@ static void look_up(jespurla_name name)
     print_entry(name, &found.entry);
 }
 
+/* The desk may write a name in other letters than the instrument did. It is the same name, and what
+ * is found has it as it was first written. */
+static void look_up_in_other_letters(void)
+{
+    jespurla_name name = name_of("\5PIPE7\5Stage");
+
+    printf("  the desk asks box 1 for ");
+    print_name(name.octets, name.length);
+    puts("");
+    look_up(name);
+}
+
 /* memcmp looks at places, and at octets that mean nothing: jespurla_zone_same does not. */
 static void compare(void)
 {
@@ -82,6 +94,7 @@ void show_lookups(void)
     look_up(name);
     look_up(name_of("\4oboe\5stage"));
     look_up(cut);
+    look_up_in_other_letters();
     puts("  the two zones");
     compare();
     told("box 2, B for X with 10.0.0.9, no other of its family stays",

@@ -59,8 +59,10 @@ static void print_addresses(const jespurla_entry *entry)
 
 void print_entry(jespurla_name name, const jespurla_entry *entry)
 {
+    const jespurla_name *spelled = entry->kind == JESPURLA_FREE ? &name : &entry->name;
+
     printf("    ");
-    print_name(name.octets, name.length);
+    print_name(spelled->octets, spelled->length);
     if (entry->kind == JESPURLA_FREE) {
         puts(" absent");
         return;
