@@ -77,6 +77,18 @@ uint8_t some_family(void);
 uint8_t some_policy(void);
 jespurla_moment some_moment(void);
 
+/* letters.c: names as they are compared, with capital letters folded, and how a zone spells them.
+ * The letters among the octets, each in either form. */
+void mix_letters(uint8_t *octets, size_t length);
+/* The entry that has the name, in whatever letters; null where none has. */
+const jespurla_entry *entry_at(const jespurla_zone *zone, const jespurla_name *name);
+/* Fails where two names of the zone are equal. */
+void check_distinct(const jespurla_zone *zone);
+/* Fails where a name that stood before has other octets after, or a new one other octets than the
+ * name that was handed in. */
+void check_spelling(const jespurla_zone *before, const jespurla_name *name,
+                    const jespurla_zone *after);
+
 /* One turn of the calls of each file. */
 void turn_names(void);
 void turn_servers(void);

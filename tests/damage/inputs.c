@@ -14,6 +14,7 @@ static size_t some_label(uint8_t *at, size_t left)
     label = 1 + random_below(one_in(4) || most < 8 ? most : 8);
     at[0] = (uint8_t)label;
     memset(at + 1, 'a' + (int)random_below(26), label);
+    mix_letters(at + 1, label);
     return 1 + label;
 }
 
@@ -33,7 +34,8 @@ size_t some_name(uint8_t *octets)
     return length;
 }
 
-/* One of a few full names mostly, so that jobs and requests meet; octets past it are any. */
+/* One of a few full names mostly, in any letters, so that jobs and requests meet; octets past it
+ * are any. */
 jespurla_name some_zone_name(void)
 {
     static const char few[3][13] = { "\5pipe0\5stage", "\5pipe1\5stage", "\5pipe2\5stage" };
@@ -50,6 +52,7 @@ jespurla_name some_zone_name(void)
         return name;
     name.length = 13;
     memcpy(name.octets, few[random_below(3)], 13);
+    mix_letters(name.octets, 13);
     if (one_in(32))
         damage_octets(&name, 13);
     return name;

@@ -81,6 +81,7 @@ static void turn_step(void)
         must(memcmp(&stepped.zone, zone, sizeof *zone) == 0, "a refused zone comes back changed");
         return;
     }
+    check_spelling(zone, &job.name, &stepped.zone);
     leave_job(at, &stepped.job);
     leave_zone(&stepped.zone);
 }

@@ -9,22 +9,12 @@ static const jespurla_zone *lend_zone(place where, const jespurla_zone *zone, si
     return (const void *)lend_to_read(where, zone_octets(zone), length);
 }
 
-/* The entry that has the name; null where none has. */
-static const jespurla_entry *entry_at(const jespurla_zone *zone, const jespurla_name *name)
-{
-    for (size_t i = 0; i < JESPURLA_NAMES_MAX; i++) {
-        const jespurla_entry *entry = &zone->entries[i];
-        if (entry->kind != JESPURLA_FREE && entry->name.length == name->length &&
-            memcmp(entry->name.octets, name->octets, name->length) == 0)
-            return entry;
-    }
-    return NULL;
-}
-
-/* A name of the zone as often as any. */
+/* A name of the zone, in any letters, as often as any. */
 static jespurla_name some_name_of(const jespurla_zone *zone)
 {
-    return one_in(2) ? some_zone_name() : zone->entries[random_below(one_in(2) ? 4 : 64)].name;
+    jespurla_name name = zone->entries[random_below(one_in(2) ? 4 : 64)].name;
+    mix_letters(name.octets, sizeof name.octets);
+    return one_in(2) ? some_zone_name() : name;
 }
 
 static void turn_find(size_t length)
@@ -61,7 +51,8 @@ static void shuffle_set(uint8_t *items, size_t width, size_t count)
     random_fill(items + width * count, width * (JESPURLA_NAME_ADDRESSES_MAX - count));
 }
 
-/* Changes the octets of a sound entry that are not looked at, and the order of its addresses. */
+/* Changes the octets of a sound entry that are not looked at, the case of letters in its name, and
+ * the order of its addresses. */
 static void shuffle_entry(jespurla_entry *entry)
 {
     if (entry->kind == JESPURLA_FREE) {
@@ -69,6 +60,7 @@ static void shuffle_entry(jespurla_entry *entry)
         entry->kind = JESPURLA_FREE;
         return;
     }
+    mix_letters(entry->name.octets, entry->name.length);
     random_fill(entry->name.octets + entry->name.length, JESPURLA_NAME_MAX - entry->name.length);
     if (entry->kind == JESPURLA_STATIC)
         random_fill(&entry->dhcid, sizeof entry->dhcid);

@@ -36,6 +36,7 @@ static size_t some_suffix(uint8_t *octets)
         return some_name(octets);
     for (size_t i = 0; i < length; i++)
         octets[i] = sound[i];
+    mix_letters(octets, length);
     if (one_in(16))
         damage_octets(octets, length);
     return length;

@@ -13,14 +13,25 @@ static void fill_zone(size_t count)
     memset(&sound, 0, sizeof sound);
     for (size_t i = 0; i < count; i++) {
         jespurla_entry *entry = &sound.entries[i];
-        const uint8_t octets[] = { 5, 'f', 'i', 'l', 'l', (uint8_t)('0' + i), 0 };
+        const uint8_t octets[] = { 6, 'f', 'i', 'l', 'l', (uint8_t)('0' + i / 10),
+                                   (uint8_t)('0' + i % 10), 0 };
         random_fill(entry, sizeof *entry);
         entry->kind = one_in(4) ? JESPURLA_STATIC : JESPURLA_HELD;
         memcpy(entry->name.octets, octets, sizeof octets);
         entry->name.length = sizeof octets;
+        mix_letters(entry->name.octets, sizeof octets);
         entry->v4.count = (uint8_t)random_below(2);
         entry->v6.count = (uint8_t)random_below(2);
     }
+}
+
+/* An entry put in twice, at times in other letters. */
+static void repeat_entry(jespurla_zone *zone, const jespurla_entry *entry)
+{
+    jespurla_entry *other = &zone->entries[random_below(64)];
+    *other = *entry;
+    if (one_in(2))
+        mix_letters(other->name.octets, sizeof other->name.octets);
 }
 
 /* Changes a zone a little: octets of one entry, an entry's kind, or an entry put in twice. */
@@ -33,7 +44,7 @@ static void spoil_zone(jespurla_zone *zone)
     else if (way == 1)
         entry->kind = (uint8_t)random_below(4);
     else
-        zone->entries[random_below(64)] = *entry;
+        repeat_entry(zone, entry);
 }
 
 /* The zone held, at times with a few octets changed, seldom drawn whole. */
@@ -75,6 +86,8 @@ static uint32_t check(const jespurla_zone *zone, const jespurla_name *name, uint
 {
     jespurla_check_answer answer = jespurla_zone_check(*zone, *name, family, policy);
     tally_count(ZONE_CHECK, answer.refusal, 0, zone_refusals);
+    if (answer.refusal == 0)
+        check_distinct(zone);
     return answer.refusal;
 }
 
@@ -128,6 +141,7 @@ static void turn_request(call which)
         return;
     }
     must(is_answer(answered.answer), "no such answer");
+    check_spelling(zone, &q.name, &answered.zone);
     leave_zone(&answered.zone);
 }
 
