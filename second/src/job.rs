@@ -256,6 +256,11 @@ mod tests {
         Name::new(&[2, b'n', number, 0]).unwrap()
     }
 
+    /// The same name with a capital letter.
+    fn capital(number: u8) -> Name {
+        Name::new(&[2, b'N', number, 0]).unwrap()
+    }
+
     fn add(number: u8, dhcid: Dhcid, last: u8) -> Job {
         new_add(&name(number), &dhcid, 4, &[last; 16], 0).unwrap()
     }
@@ -313,6 +318,28 @@ mod tests {
             serial_order(&start, &fresh, &start, &[GONE, CONFLICT]),
             None
         );
+    }
+
+    #[test]
+    fn p12_in_other_letters() {
+        let start = zone(&[held(0, X, 1)]);
+        let other = |job| Job {
+            name: capital(0),
+            ..job
+        };
+        let fresh = [other(remove(0, X, 1)), other(add(0, Y, 2)), add(0, Y, 2)];
+        let ([mut x, mut y, mut again], mut z) = (fresh, start.clone());
+        assert_eq!(go(&mut z, &mut x), BEFORE_SECOND);
+        assert_eq!(go(&mut z, &mut y), BEFORE_B);
+        assert_eq!(go(&mut z, &mut again), BEFORE_B);
+        assert_eq!(go(&mut z, &mut again), CONFLICT);
+        assert_eq!(z.entries[0].name.as_slice(), name(0).as_slice());
+        assert_eq!(go(&mut z, &mut x), GONE);
+        assert_eq!(go(&mut z, &mut y), BEFORE_A);
+        assert_eq!(go(&mut z, &mut y), DONE);
+        assert_eq!(z.entries[0].name.as_slice(), capital(0).as_slice());
+        let order = serial_order(&start, &fresh, &z, &[GONE, DONE, CONFLICT]);
+        assert_eq!(order, Some(vec![2, 0, 1]));
     }
 
     #[test]
@@ -505,7 +532,8 @@ mod tests {
         fn job(&mut self) -> Job {
             let family = if self.below(6) == 0 { 6 } else { 4 };
             let address = [1 + self.below(5); 16];
-            let (name, dhcid) = (name(self.below(3)), self.dhcid());
+            let spelled = if self.below(3) == 0 { capital } else { name };
+            let (name, dhcid) = (spelled(self.below(3)), self.dhcid());
             if self.below(2) == 0 {
                 return new_remove(&name, &dhcid, family, &address).unwrap();
             }

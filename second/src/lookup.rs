@@ -4,7 +4,7 @@
 use crate::zone::{self, Entry, Name, Zone, HELD};
 
 /// Whether two zones have the same names, owners and address sets, at
-/// whichever places. Refusal 17 for either of them.
+/// whichever places and in whichever letters. Refusal 17 for either of them.
 pub fn same(left: &Zone, right: &Zone) -> Result<bool, u8> {
     let (left, right) = (zone::sort(left)?, zone::sort(right)?);
     let (left, right) = (left.as_slice(), right.as_slice());
@@ -21,8 +21,8 @@ fn is_same(left: &Entry, right: &Entry) -> bool {
         && left.v6.is_same(&right.v6)
 }
 
-/// The place that a name has, or none where the name is absent. Refusals 17,
-/// then 11.
+/// The place that a name has, with the name in the letters in which it stands
+/// there, or none where the name is absent. Refusals 17, then 11.
 pub fn find<'a>(zone: &'a Zone, name: &Name) -> Result<Option<&'a Entry>, u8> {
     zone::check(zone)?;
     zone::check_name(name)?;
@@ -38,7 +38,12 @@ mod tests {
     const Y: Dhcid = [2; 35];
 
     fn name(number: usize) -> Name {
-        Name::new(&[2, b'n', b'0' + number as u8, 0]).unwrap()
+        Name::new(&[2, b'n', 128 + number as u8, 0]).unwrap()
+    }
+
+    /// The same name with a capital letter.
+    fn capital(number: usize) -> Name {
+        Name::new(&[2, b'N', 128 + number as u8, 0]).unwrap()
     }
 
     fn set<const W: usize>(lasts: &[u8]) -> Set<W> {
@@ -151,6 +156,29 @@ mod tests {
         rubbish.entries[2].kind = FREE;
         rubbish.entries[2].v6.count = 200;
         assert!(told(&rubbish, &zone(&[held(0), fixed(1)])));
+    }
+
+    #[test]
+    fn letters_do_not_count() {
+        let mut other = full_zone();
+        for (number, entry) in other.entries.iter_mut().enumerate() {
+            entry.name = capital(number);
+        }
+        other.entries.reverse();
+        assert!(told(&full_zone(), &other));
+        for number in 0..PLACES {
+            let found = find(&other, &name(number)).unwrap().unwrap();
+            assert_eq!(found.name.as_slice(), capital(number).as_slice());
+        }
+        let twice = zone(&[
+            held(0),
+            Entry {
+                name: capital(0),
+                ..fixed(1)
+            },
+        ]);
+        assert_eq!(find(&twice, &name(0)).err(), Some(17));
+        assert_eq!(same(&twice, &full_zone()), Err(17));
     }
 
     #[test]

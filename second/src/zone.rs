@@ -1,9 +1,11 @@
 //! The zone and its requests (document 01, "Zone, requests and jobs").
 //!
 //! A zone has places for 64 names. A name is static or held by one DHCID,
-//! and has a small set of addresses per family. Four requests work on it, and
-//! each reads and writes in one go, so that nothing comes between. Refusals
-//! keep the order of "Refusal numbers": 17, 18, 11.
+//! and has a small set of addresses per family. Names are compared with A to
+//! Z folded (document 02, a); a name that stands keeps its octets. Four
+//! requests work on the zone, and each reads and writes in one go, so that
+//! nothing comes between. Refusals keep the order of "Refusal numbers": 17,
+//! 18, 11.
 
 use std::collections::{BTreeMap, BTreeSet};
 
@@ -26,7 +28,8 @@ pub type Dhcid = [u8; 35];
 /// Room for an address of either family; family 4 uses the first four.
 pub type Address = [u8; 16];
 
-/// A name's octets and how many of them count.
+/// A name's octets and how many of them count. Names that differ in the case
+/// of letters alone are equal.
 #[derive(Clone, Copy, Debug)]
 pub struct Name {
     pub len: u8,
@@ -52,6 +55,12 @@ impl Name {
         &self.octets[..usize::from(self.len)]
     }
 
+    /// The octets with A to Z folded, in which equal names are alike. Length
+    /// octets are below the letters and stay.
+    pub fn folded(&self) -> Vec<u8> {
+        self.as_slice().to_ascii_lowercase()
+    }
+
     /// Whether the octets form a full name, as zones and jobs need it.
     pub fn is_full(&self) -> bool {
         shape(self.as_slice()) == Shape::Full
@@ -61,7 +70,7 @@ impl Name {
 impl PartialEq for Name {
     #[inline]
     fn eq(&self, other: &Name) -> bool {
-        self.as_slice() == other.as_slice()
+        self.as_slice().eq_ignore_ascii_case(other.as_slice())
     }
 }
 
@@ -206,12 +215,17 @@ impl Zone {
         entries: [Entry::FREE; PLACES],
     };
 
+    /// The places that have a name.
+    fn named(&self) -> impl Iterator<Item = &Entry> {
+        self.entries.iter().filter(|entry| entry.kind != FREE)
+    }
+
     fn find(&mut self, name: &Name) -> Option<&mut Entry> {
         self.entries.iter_mut().find(|entry| entry.is_at(name))
     }
 }
 
-/// The places of a zone that have a name, in the order of their names.
+/// The places of a zone that have a name, in the order of the folded names.
 pub(crate) struct Sorted<'a> {
     /// Those past the count stand for nothing.
     entries: [&'a Entry; PLACES],
@@ -219,8 +233,53 @@ pub(crate) struct Sorted<'a> {
 }
 
 impl<'a> Sorted<'a> {
+    /// The places as they come.
+    fn new(zone: &'a Zone) -> Sorted<'a> {
+        let mut sorted = Sorted {
+            entries: [&zone.entries[0]; PLACES],
+            count: 0,
+        };
+        for entry in zone.named() {
+            sorted.entries[sorted.count] = entry;
+            sorted.count += 1;
+        }
+        sorted
+    }
+
     pub(crate) fn as_slice(&self) -> &[&'a Entry] {
         &self.entries[..self.count]
+    }
+
+    /// Sorts the places by their names, which are folded once for all the
+    /// comparing; false where two are equal, and then side by side.
+    fn sort(&mut self) -> bool {
+        let octets = self.folded_names();
+        let mut rest = octets.as_slice();
+        let named = self.as_slice().iter().map(|entry| {
+            let (name, behind) = rest.split_at(usize::from(entry.name.len));
+            rest = behind;
+            (name, *entry)
+        });
+        let mut named: Vec<(&[u8], &Entry)> = named.collect();
+        named.sort_unstable_by_key(|(name, _)| *name);
+        for (place, (_, entry)) in self.entries.iter_mut().zip(&named) {
+            *place = entry;
+        }
+        named.windows(2).all(|pair| pair[0].0 != pair[1].0)
+    }
+
+    /// The folded names, one behind the other.
+    fn folded_names(&self) -> Vec<u8> {
+        let lengths = self
+            .as_slice()
+            .iter()
+            .map(|entry| usize::from(entry.name.len));
+        let mut octets = Vec::with_capacity(lengths.sum());
+        for entry in self.as_slice() {
+            octets.extend_from_slice(entry.name.as_slice());
+        }
+        octets.make_ascii_lowercase();
+        octets
     }
 }
 
@@ -258,26 +317,18 @@ pub fn check(zone: &Zone) -> Result<(), u8> {
 }
 
 /// The places that have a name, sorted by it; refusal 17 where the zone breaks
-/// its form. Sorted names have equal ones side by side.
+/// its form.
 #[inline]
 pub(crate) fn sort(zone: &Zone) -> Result<Sorted<'_>, u8> {
     if !zone.entries.iter().all(Entry::is_well_formed) {
         return Err(17);
     }
-    let mut sorted = Sorted {
-        entries: [&zone.entries[0]; PLACES],
-        count: 0,
-    };
-    for entry in zone.entries.iter().filter(|entry| entry.kind != FREE) {
-        sorted.entries[sorted.count] = entry;
-        sorted.count += 1;
+    let mut sorted = Sorted::new(zone);
+    if sorted.sort() {
+        Ok(sorted)
+    } else {
+        Err(17)
     }
-    let named = &mut sorted.entries[..sorted.count];
-    named.sort_unstable_by(|one, other| one.name.as_slice().cmp(other.name.as_slice()));
-    if named.windows(2).any(|pair| pair[0].name == pair[1].name) {
-        return Err(17);
-    }
-    Ok(sorted)
 }
 
 /// Refusal 18 unless the family is 4 or 6 and the policy is listed.
@@ -499,15 +550,15 @@ pub fn request_remove_second_by_value(
 /// A name's owner (none if static) and its two address sets.
 pub type Holding = (Option<Dhcid>, BTreeSet<[u8; 4]>, BTreeSet<[u8; 16]>);
 
-/// A zone without its places: two zones are the same when these are equal.
+/// A zone without its places, with the names folded: two zones are the same
+/// when these are equal.
 pub fn as_set(zone: &Zone) -> BTreeMap<Vec<u8>, Holding> {
-    let named = zone.entries.iter().filter(|entry| entry.kind != FREE);
-    named
+    zone.named()
         .map(|entry| {
             let owner = (entry.kind == HELD).then_some(entry.dhcid);
             let v4 = entry.v4.as_slice().iter().copied().collect();
             let v6 = entry.v6.as_slice().iter().copied().collect();
-            (entry.name.as_slice().to_vec(), (owner, v4, v6))
+            (entry.name.folded(), (owner, v4, v6))
         })
         .collect()
 }
@@ -557,6 +608,94 @@ mod tests {
 
     fn same(left: &Zone, right: &Zone) -> bool {
         as_set(left) == as_set(right)
+    }
+
+    /// The name of a number, in capital letters.
+    fn capital(number: usize) -> Name {
+        Name::new(&name(number).as_slice().to_ascii_uppercase()).unwrap()
+    }
+
+    /// The octets of the only name in a zone.
+    fn spelling(zone: &Zone) -> Vec<u8> {
+        let mut named = zone.named();
+        let only = named.next().unwrap();
+        assert!(named.next().is_none());
+        only.name.as_slice().to_vec()
+    }
+
+    /// Each octet with each other, at several places of a name.
+    #[test]
+    fn only_letters_are_folded() {
+        let with = |at: usize, octet| {
+            let mut octets = [b'x'; 42];
+            (octets[0], octets[41]) = (40, 0);
+            octets[at] = octet;
+            Name::new(&octets).unwrap()
+        };
+        let key = |octet| match octet {
+            65..=90 => octet + 32,
+            _ => octet,
+        };
+        let mut z = zone(&[held(0, X, &[], &[]), held(1, Y, &[], &[])]);
+        for (one, other) in (0..=255).flat_map(|one| (0..=255).map(move |other| (one, other))) {
+            for at in [1, 15, 16, 40] {
+                let names = [with(at, one), with(at, other)];
+                let same = key(one) == key(other);
+                assert_eq!(names[0] == names[1], same, "{one} {other}");
+                assert_eq!(names[0].folded() == names[1].folded(), same);
+                [z.entries[0].name, z.entries[1].name] = names;
+                assert_eq!(check(&z).is_err(), same);
+            }
+        }
+    }
+
+    #[test]
+    fn length_octets_are_not_folded() {
+        // They differ in the bit in which letters of either case differ.
+        let mut octets = [b'x'; 35];
+        (octets[2], octets[34]) = (31, 0);
+        let [one, other] = [1, 33].map(|length| {
+            octets[0] = length;
+            Name::new(&octets).unwrap()
+        });
+        assert!(one.is_full() && other.is_full());
+        assert_ne!(one, other);
+        let entries = [one, other].map(|name| Entry {
+            name,
+            ..held(0, X, &[], &[])
+        });
+        assert_eq!(check(&zone(&entries)), Ok(()));
+    }
+
+    #[test]
+    fn names_in_other_letters_are_the_same() {
+        let other = Entry {
+            name: capital(0),
+            ..held(1, Y, &[], &[])
+        };
+        assert_eq!(check(&zone(&[held(0, X, &[], &[]), other])), Err(17));
+        let mut apart = full_zone();
+        apart.entries[63] = other;
+        assert_eq!(check(&apart), Err(17));
+        assert!(same(&zone(&[other]), &zone(&[held(0, Y, &[], &[])])));
+    }
+
+    #[test]
+    fn a_name_keeps_its_octets_until_it_is_gone() {
+        let (small, large) = (name(0), capital(0));
+        let mut z = Zone::EMPTY;
+        let add = |zone: &mut Zone, name| request_a(zone, name, &X, 4, &address(1)).unwrap();
+        assert_eq!(add(&mut z, &large), Answer::Success);
+        assert_eq!(add(&mut z, &small), Answer::YxDomain);
+        let other = request_b(&mut z, &small, &X, 4, &address(2), 2);
+        assert_eq!(other, Ok(Answer::Success));
+        let first = request_remove_first(&mut z, &small, &X, 4, &address(2));
+        assert_eq!(first, Ok(FirstAnswer::Passed));
+        assert_eq!(spelling(&z), large.as_slice());
+        let second = request_remove_second(&mut z, &small, &X, 4);
+        assert_eq!(second, Ok(SecondAnswer::Gone));
+        assert_eq!(add(&mut z, &small), Answer::Success);
+        assert_eq!(spelling(&z), small.as_slice());
     }
 
     #[test]
