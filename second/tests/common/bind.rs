@@ -4,25 +4,29 @@
 use std::collections::BTreeSet;
 
 use second::job::{self, Job};
-use second::zone::{as_set, Address, Holding, Name, Zone};
+use second::zone::{as_set, Address, Holding, Name, Zone, HELD};
 
 use super::requests::{Kind, Reply, Request};
+use super::zones::entry_at;
 
 /// Updates without BIND's response codes: a second remove request that failed
 /// may have answered NXRRSET or YXRRSET.
 const UPDATES: &str = include_str!("../data/bind-updates.txt");
 
-/// Updates with BIND's response codes, of names in mixed case. BIND takes two
-/// names for one that differ in case alone, so they are read in small letters.
+/// Updates with BIND's response codes, of names in mixed case.
 const CODED_UPDATES: &str = include_str!("../data/bind-updates-case.txt");
 
-/// How many lists, requests and end lines the files have, and how many of the
-/// requests are second remove requests that found an address.
+/// How many lists, requests and end lines the files have, how many of the
+/// requests are second remove requests that found an address, and how many of
+/// the end lines give a name in the letters in which it stands, and of those
+/// with a capital one among them.
 pub const ALL: Agreed = Agreed {
     lists: 800,
     asks: 3_679,
     ends: 1_204,
     yxrrsets: 163,
+    spelled: 772,
+    capital: 279,
 };
 
 /// How many of those found an address at a name of another's.
@@ -35,6 +39,22 @@ pub struct Agreed {
     pub asks: usize,
     pub ends: usize,
     pub yxrrsets: usize,
+    pub spelled: usize,
+    pub capital: usize,
+}
+
+impl Agreed {
+    /// Counts an end line: what the zone holds at its name must be BIND's,
+    /// and a name that stands must have the letters in which BIND holds it.
+    fn end(&mut self, line: &str, zone: &Zone, name: &Name, held: Option<Holding>) {
+        assert_eq!(as_set(zone).remove(&name.folded()), held, "{line}");
+        self.ends += 1;
+        if let Some(entry) = entry_at(zone, name) {
+            assert_eq!(entry.name.as_slice(), name.as_slice(), "{line}");
+            self.spelled += 1;
+            self.capital += usize::from(name.as_slice() != name.folded());
+        }
+    }
 }
 
 /// A line of the file; jobs are numbered from 0 as they come in their list.
@@ -44,8 +64,9 @@ enum Line {
     Job(Request),
     /// The next request of a job, and the answers that BIND's may have been.
     Ask(usize, Kind, &'static [Reply]),
-    /// What BIND held at a name after the list.
-    End(Vec<u8>, Option<Holding>),
+    /// What BIND held at a name after the list. The letters of a name that
+    /// stands are those in which BIND holds it.
+    End(Name, Option<Holding>),
 }
 
 /// Octets from their hex digits.
@@ -54,9 +75,9 @@ fn octets(hex: &str) -> Vec<u8> {
     (0..hex.len()).step_by(2).map(digits).collect()
 }
 
-/// A name in small letters. Its length octets are no letters.
-fn name_octets(hex: &str) -> Vec<u8> {
-    octets(hex).to_ascii_lowercase()
+/// A name in the letters of the file.
+fn name(hex: &str) -> Name {
+    Name::new(&octets(hex)).expect("at most 255 octets")
 }
 
 fn array<const W: usize>(hex: &str) -> [u8; W] {
@@ -77,14 +98,14 @@ fn addresses<const W: usize>(list: &str) -> BTreeSet<[u8; W]> {
 }
 
 fn job(words: [&str; 6]) -> Request {
-    let [kind, name, dhcid, family, hex, policy] = words;
+    let [kind, spelled, dhcid, family, hex, policy] = words;
     Request {
         kind: match kind {
             "add" => Kind::A,
             "remove" => Kind::RemoveFirst,
             _ => panic!("no job is called {kind}"),
         },
-        name: Name::new(&name_octets(name)).expect("at most 255 octets"),
+        name: name(spelled),
         dhcid: array(dhcid),
         family: family.parse().expect("a family"),
         address: address(hex),
@@ -122,17 +143,17 @@ fn read(line: &str) -> Line {
     let number = || words[1].parse::<usize>().expect("a number");
     match words[..] {
         ["list", _] => Line::List,
-        ["job", _, job_kind, name, dhcid, family, hex, policy] => {
-            Line::Job(job([job_kind, name, dhcid, family, hex, policy]))
+        ["job", _, job_kind, spelled, dhcid, family, hex, policy] => {
+            Line::Job(job([job_kind, spelled, dhcid, family, hex, policy]))
         }
         ["ask", _, word, said] => Line::Ask(number(), kind(word), replies(kind(word), said, None)),
         ["ask", _, word, said, code] => {
             Line::Ask(number(), kind(word), replies(kind(word), said, Some(code)))
         }
-        ["end", name, "absent"] => Line::End(name_octets(name), None),
-        ["end", name, dhcid, v4, v6] => {
+        ["end", spelled, "absent"] => Line::End(name(spelled), None),
+        ["end", spelled, dhcid, v4, v6] => {
             let holding = (Some(array(dhcid)), addresses(v4), addresses(v6));
-            Line::End(name_octets(name), Some(holding))
+            Line::End(name(spelled), Some(holding))
         }
         _ => panic!("unknown line {line}"),
     }
@@ -163,10 +184,7 @@ fn walk<J>(
                 agreed.asks += 1;
                 agreed.yxrrsets += usize::from(replies == [Reply::YxRrset]);
             }
-            Line::End(name, held) => {
-                assert_eq!(as_set(&zone).remove(&name), held, "{line}");
-                agreed.ends += 1;
-            }
+            Line::End(name, held) => agreed.end(line, &zone, &name, held),
         }
     }
     assert!(jobs.iter().all(&has_ended));
@@ -199,10 +217,8 @@ pub fn replay(mut send: impl FnMut(&mut Zone, &Request) -> Result<Reply, u8>) ->
 
 /// Whether the DHCID of a request holds its name.
 fn is_held(zone: &Zone, request: &Request) -> bool {
-    let owner = as_set(zone)
-        .remove(request.name.as_slice())
-        .and_then(|(owner, _, _)| owner);
-    owner == Some(request.dhcid)
+    let entry = entry_at(zone, &request.name);
+    entry.is_some_and(|entry| entry.kind == HELD && entry.dhcid == request.dhcid)
 }
 
 /// Steps the jobs; they must send the very requests that stand there, and

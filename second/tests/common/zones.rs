@@ -285,6 +285,12 @@ pub fn names_in(zone: &Zone) -> usize {
     named.count()
 }
 
+/// What stands at a name, in whichever letters.
+pub fn entry_at<'a>(zone: &'a Zone, name: &Name) -> Option<&'a Entry> {
+    let named = |entry: &&Entry| entry.kind != FREE && entry.name == *name;
+    zone.entries.iter().find(named)
+}
+
 /// A place that passes a test, from a random one on, if there is one.
 pub fn some_place(
     random: &mut Random,
