@@ -8,13 +8,14 @@ use common::bind;
 use common::faults::{self, first, has_another, number};
 use common::jobs::{self, called, Pool, Start};
 use common::lent::{is_same, places_written};
+use common::letters::{self, is_spelled_alike};
 use common::product::{self, Way, WAYS};
 use common::random::{from_both_seeds, Random, FIXED_SEED};
 use common::requests::{Kind, Request};
 use common::stack::on_a_stack;
 use common::tally::Tally;
 use common::twin::Twin;
-use common::zones::{self, no_full_name, same_zone};
+use common::zones::{self, entry_at, no_full_name, same_zone};
 use jespurla::raw::{self, StepAnswer};
 use second::job::{self, Job};
 use second::zone::{as_set, check, Entry, Zone, FREE};
@@ -128,6 +129,15 @@ const LENT: &[&str] = &[
     "order found, steps of both kinds",
 ];
 
+/// Steps that sent a request and met their name in other letters.
+const LETTERS: &[&str] = &[
+    "in other letters: before A",
+    "in other letters: before B",
+    "in other letters: before first remove",
+    "in other letters: before second remove",
+    "list's job: done, added again in other letters",
+];
+
 /// What a job is told of its end.
 const ENDS: &[&str] = &["answer 0", "answer 1"];
 
@@ -158,12 +168,13 @@ impl Both {
     }
 
     /// Whether a zone of the product's is of good form and the second
-    /// program's. If so, its places are taken over.
+    /// program's, every name in the same letters. If so, its places are taken
+    /// over.
     fn take(&mut self, left: &raw::Zone) -> bool {
         let mut places = left.entries.iter().zip(&self.second.entries);
         if !places.all(|(left, right)| same_place(left, right)) {
             let ours = left.twin();
-            if check(&ours) != Ok(()) || as_set(&ours) != as_set(&self.second) {
+            if check(&ours) != Ok(()) || !same_zone(&ours, &self.second) {
                 return false;
             }
             self.second = ours;
@@ -232,6 +243,8 @@ impl Told {
 struct Run {
     random: Random,
     tally: Tally,
+    /// Steps that sent a request.
+    sent: usize,
     call: Call,
 }
 
@@ -239,7 +252,15 @@ impl Run {
     fn new(seed: u64, call: Call) -> Run {
         Run {
             random: Random::new(seed),
-            tally: Tally::new(&[zones::FAULTS, faults::AHEAD, KINDS, LENT]),
+            tally: Tally::new(&[
+                zones::FAULTS,
+                faults::AHEAD,
+                KINDS,
+                letters::MET,
+                LETTERS,
+                LENT,
+            ]),
+            sent: 0,
             call,
         }
     }
@@ -327,6 +348,9 @@ impl Run {
         }
         self.count(job, &next, refusal, faults);
         self.count_lent(refusal, written);
+        if refusal == 0 && !job.has_ended() {
+            self.count_letters(&given.second, job);
+        }
         next
     }
 
@@ -346,6 +370,14 @@ impl Run {
             0 => "lent: no place written",
             _ => "lent: one place written",
         });
+    }
+
+    fn count_letters(&mut self, zone: &Zone, job: &Job) {
+        self.sent += 1;
+        if letters::count(&mut self.tally, zone, &job.name) {
+            let before = called(job.stage);
+            self.tally.count(&format!("in other letters: {before}"));
+        }
     }
 
     fn count(&mut self, job: &Job, next: &Job, refusal: u8, faults: &[&str]) {
@@ -371,6 +403,10 @@ impl Run {
         });
         if member.now.has_ended() {
             return self.tally.count("list's job after its end");
+        }
+        if is_added_again(&list.start, &member.now, &now) {
+            self.tally
+                .count("list's job: done, added again in other letters");
         }
         member.now = now;
         member.sent += 1;
@@ -549,7 +585,15 @@ impl Run {
         }
         let title = format!("seed {}, lists of job steps", self.random.seed);
         self.tally.report(&title, LISTS, EACH);
+        self.tally.assert_third(letters::OTHER_LETTERS, self.sent);
     }
+}
+
+/// Whether a step adds a name in other letters than a list's start has it in.
+fn is_added_again(start: &Zone, job: &Job, next: &Job) -> bool {
+    let added = (job.stage, next.stage) == (job::BEFORE_A, job::DONE);
+    let before = entry_at(start, &job.name);
+    added && before.is_some_and(|entry| !is_spelled_alike(&entry.name, &job.name))
 }
 
 /// A job's stage, with an add's count.

@@ -6,14 +6,15 @@ mod common;
 use common::bind;
 use common::faults::{self, first, number};
 use common::lent::{is_same, places_written};
+use common::letters::{self, is_spelled_alike};
 use common::product::{self, Way, WAYS};
 use common::random::{from_both_seeds, Random};
 use common::requests::{self, Kind, Reply, Request};
 use common::tally::Tally;
 use common::twin::Twin;
-use common::zones::{self, names_in, no_full_name, same_zone, Stock};
+use common::zones::{self, again, entry_at, names_in, no_full_name, same_zone, some_place, Stock};
 use jespurla::raw::{self, RequestAnswer};
-use second::zone::{as_set, check, Entry, Zone, FREE, HELD, PLACES, STATIC};
+use second::zone::{as_set, check, Entry, Name, Zone, HELD, PLACES, STATIC};
 
 /// Requests compared by one run, at the least.
 const REQUESTS: usize = 400_000;
@@ -62,6 +63,21 @@ const KINDS: &[&str] = &[
     "second remove: YXRRSET, both families",
 ];
 
+/// Requests that were answered and met their name in other letters, and names
+/// that were added in other letters than they had before they were deleted.
+const LETTERS: &[&str] = &[
+    "in other letters: A YxDomain",
+    "in other letters: B Success",
+    "in other letters: B NxRrset",
+    "in other letters: B NoRoom",
+    "in other letters: RemoveFirst Success",
+    "in other letters: RemoveFirst NotOurs",
+    "in other letters: RemoveSecond Success",
+    "in other letters: RemoveSecond NxRrset",
+    "in other letters: RemoveSecond YxRrset",
+    "A: added again in other letters",
+];
+
 /// What the calls on a lent zone gave and did.
 const LENT: &[&str] = &[
     "lent: refusal 17",
@@ -104,7 +120,8 @@ impl Told {
     }
 
     /// Whether it is what the second program said. A refused zone comes back
-    /// octet for octet, another one is the same and of good form.
+    /// octet for octet, another one is the same, every name in the same
+    /// letters, and of good form.
     fn agrees(&self, given: &raw::Zone, request: &Request, said: &Said) -> bool {
         let (refusal, answer) = (self.answer.refusal, self.answer.answer);
         let same = match said.reply {
@@ -140,13 +157,26 @@ impl Said {
 struct Run {
     random: Random,
     tally: Tally,
+    /// Requests that were answered.
+    answered: usize,
+    /// The names that the chain under way deleted, in their letters.
+    gone: Vec<Name>,
 }
 
 impl Run {
     fn new(seed: u64) -> Run {
         Run {
             random: Random::new(seed),
-            tally: Tally::new(&[zones::FAULTS, faults::AHEAD, KINDS, LENT]),
+            tally: Tally::new(&[
+                zones::FAULTS,
+                faults::AHEAD,
+                KINDS,
+                letters::MET,
+                LETTERS,
+                LENT,
+            ]),
+            answered: 0,
+            gone: Vec::new(),
         }
     }
 
@@ -195,17 +225,60 @@ impl Run {
         assert_eq!(fault.map(number), expected.err(), "{:?}", case.faults);
         match (fault, expected) {
             (Some(fault), _) => faults::count(&mut self.tally, &case.faults, fault),
-            (None, Ok(reply)) => count_answer(&mut self.tally, zone, &case.request, reply),
+            (None, Ok(reply)) => {
+                count_answer(&mut self.tally, zone, &case.request, reply);
+                self.count_letters(zone, &case.request, reply);
+            }
             (None, Err(_)) => unreachable!("a refusal has a fault"),
         }
     }
 
+    fn count_letters(&mut self, zone: &Zone, request: &Request, reply: Reply) {
+        self.answered += 1;
+        let kind = request.kind;
+        if letters::count(&mut self.tally, zone, &request.name) {
+            self.tally
+                .count(&format!("in other letters: {kind:?} {reply:?}"));
+        }
+        match (kind, reply, entry_at(zone, &request.name)) {
+            (Kind::RemoveSecond, Reply::Success, Some(entry)) => self.gone.push(entry.name),
+            (Kind::A, Reply::Success, _) => {
+                let last = self.gone.iter().rfind(|gone| **gone == request.name);
+                if last.is_some_and(|last| !is_spelled_alike(last, &request.name)) {
+                    self.tally.count("A: added again in other letters");
+                }
+            }
+            _ => {}
+        }
+    }
+
+    /// Aims a request at the name that was deleted last, to add it again, or
+    /// at one that can be deleted.
+    fn aim(&mut self, zone: &Zone, request: &mut Request) {
+        let random = &mut self.random;
+        let bare = |entry: &Entry| {
+            let addresses = (entry.v4.count, entry.v6.count);
+            entry.kind == HELD && addresses == (0, 0) && entry.name.is_full()
+        };
+        let gone = self.gone.last().filter(|_| random.one_in(2));
+        if let Some(gone) = gone {
+            (request.kind, request.name) = (Kind::A, again(random, gone));
+        } else if let Some(at) = some_place(random, zone, bare) {
+            let entry = &zone.entries[at];
+            (request.kind, request.dhcid) = (Kind::RemoveSecond, entry.dhcid);
+            request.name = again(random, &entry.name);
+        }
+    }
+
     /// A request of the stock's, at times with faults.
-    fn case(&mut self, stock: &Stock) -> Case {
+    fn case(&mut self, stock: &Stock, zone: &Zone) -> Case {
         let mut case = Case {
             request: stock.request(&mut self.random),
             faults: Vec::new(),
         };
+        if self.random.one_in(10) {
+            self.aim(zone, &mut case.request);
+        }
         if self.random.one_in(10) {
             self.plant_number(&mut case);
         }
@@ -231,15 +304,16 @@ impl Run {
     /// Requests of which each gets the zone that the one before it left, and
     /// at last a few on a broken zone.
     fn chain(&mut self) {
+        self.gone.clear();
         let stock = Stock::new(&mut self.random);
         let mut zone = stock.zone(&mut self.random);
         for _ in 0..self.random.between(5, 40) {
-            let case = self.case(&stock);
+            let case = self.case(&stock, &zone);
             zone = self.compare(&zone, &case);
         }
         let fault = stock.break_zone(&mut self.random, &mut zone);
         for _ in 0..3 {
-            let mut case = self.case(&stock);
+            let mut case = self.case(&stock, &zone);
             case.faults.push(fault);
             zone = self.compare(&zone, &case);
         }
@@ -251,12 +325,9 @@ impl Run {
         }
         let title = format!("seed {}, zone requests", self.random.seed);
         self.tally.report(&title, REQUESTS, EACH);
+        self.tally
+            .assert_third(letters::OTHER_LETTERS, self.answered);
     }
-}
-
-fn entry_of<'a>(zone: &'a Zone, request: &Request) -> Option<&'a Entry> {
-    let named = |entry: &&Entry| entry.kind != FREE && entry.name == request.name;
-    zone.entries.iter().find(named)
 }
 
 /// Whether an entry has the request's address, and how many of its family.
@@ -295,7 +366,7 @@ fn count_a(tally: &mut Tally, zone: &Zone, request: &Request, reply: Reply) {
 }
 
 fn count_b(tally: &mut Tally, zone: &Zone, request: &Request, reply: Reply) {
-    let Some(entry) = entry_of(zone, request) else {
+    let Some(entry) = entry_at(zone, &request.name) else {
         return tally.count("B: NXDOMAIN");
     };
     let (present, count) = family_of(entry, request);
@@ -323,7 +394,7 @@ fn not_ours(entry: Option<&Entry>, request: &Request) -> Option<&'static str> {
 }
 
 fn count_first(tally: &mut Tally, zone: &Zone, request: &Request) {
-    let entry = entry_of(zone, request);
+    let entry = entry_at(zone, &request.name);
     if let Some(reason) = not_ours(entry, request) {
         return tally.count(&format!("first remove: not ours, {reason}"));
     }
@@ -336,7 +407,7 @@ fn count_first(tally: &mut Tally, zone: &Zone, request: &Request) {
 }
 
 fn count_second(tally: &mut Tally, zone: &Zone, request: &Request) {
-    let entry = entry_of(zone, request);
+    let entry = entry_at(zone, &request.name);
     if let Some(reason) = not_ours(entry, request) {
         return tally.count(&format!("second remove: NXRRSET, {reason}"));
     }

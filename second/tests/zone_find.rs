@@ -6,6 +6,7 @@ mod common;
 use common::faults::{self, first, number};
 use common::lengths::{self, Longer};
 use common::lent::is_same;
+use common::letters::{self, respelled};
 use common::names;
 use common::product::find_answer;
 use common::random::{from_both_seeds, Random};
@@ -41,6 +42,7 @@ const KINDS: &[&str] = &[
     "found, one name in the zone",
     "found, 64 names in the zone",
     "absent, an octet differs",
+    "absent, bit 5 of no letter differs",
     "absent, a label more",
     "absent, a label less",
     "absent, in a free place",
@@ -66,6 +68,8 @@ struct Case<'a> {
 struct Run {
     random: Random,
     tally: Tally,
+    /// Calls that were answered.
+    answered: usize,
     /// How often a name was found at each place, static, held and long ones.
     places: [[usize; PLACES]; FOUND.len()],
 }
@@ -74,7 +78,8 @@ impl Run {
     fn new(seed: u64) -> Run {
         Run {
             random: Random::new(seed),
-            tally: Tally::new(&[KINDS, zones::FAULTS, &lengths::labels()]),
+            tally: Tally::new(&[KINDS, letters::MET, zones::FAULTS, &lengths::labels()]),
+            answered: 0,
             places: [[0; PLACES]; FOUND.len()],
         }
     }
@@ -95,8 +100,10 @@ impl Run {
         match expected {
             Ok(Some(entry)) => self.count_found(case, entry),
             Ok(None) => self.count_absent(case),
-            Err(_) => {}
+            Err(_) => return,
         }
+        self.answered += 1;
+        letters::count(&mut self.tally, case.zone, &case.name);
     }
 
     fn count(&mut self, case: &Case, got: &FindAnswer) {
@@ -172,7 +179,7 @@ impl Run {
             (6.., Some(named), _) => (named, "there"),
             _ => (names::some_full(random), "absent, drawn apart"),
         };
-        (name_of(random, &octets), drawn)
+        (some_letters(random, &octets), drawn)
     }
 
     /// A name to look for, at times not a full one.
@@ -240,7 +247,7 @@ impl Run {
         for entry in &zone.entries {
             let case = Case {
                 zone: &zone,
-                name: entry.name,
+                name: some_letters(&mut self.random, entry.name.as_slice()),
                 drawn: "there",
                 faults: Vec::new(),
             };
@@ -257,6 +264,8 @@ impl Run {
         }
         let title = format!("seed {}, names of zones", self.random.seed);
         self.tally.report(&title, NAMES, EACH);
+        self.tally
+            .assert_third(letters::OTHER_LETTERS, self.answered);
         for (what, places) in FOUND.iter().zip(&self.places) {
             let least = *places.iter().min().expect("64 places");
             println!(
@@ -275,15 +284,28 @@ fn place(random: &mut Random, zone: &Zone, test: impl Fn(u8) -> bool) -> Option<
     Some(zone.entries[at].name.as_slice().to_vec())
 }
 
+/// A name of these octets, mostly in other letters.
+fn some_letters(random: &mut Random, octets: &[u8]) -> Name {
+    if random.below(5) < 2 {
+        return name_of(random, octets);
+    }
+    let other = respelled(random, octets);
+    name_of(random, &other)
+}
+
 /// A full name near another, and how it differs.
 fn near(random: &mut Random, name: &[u8]) -> (Vec<u8>, &'static str) {
     let rest = &name[1 + usize::from(name[0])..];
-    match random.below(3) {
+    let mut other = name.to_vec();
+    let at = random.pick(&[1, name.len() - 2]);
+    match random.below(4) {
         0 if name.len() < 254 => ([&[1, b'x'], name].concat(), "absent, a label more"),
         1 if rest.len() > 1 => (rest.to_vec(), "absent, a label less"),
+        2 if !name[at].is_ascii_alphabetic() => {
+            other[at] ^= 0x20;
+            (other, "absent, bit 5 of no letter differs")
+        }
         _ => {
-            let mut other = name.to_vec();
-            let at = random.pick(&[1, name.len() - 2]);
             other[at] ^= 1 << random.below(8);
             (other, "absent, an octet differs")
         }

@@ -5,15 +5,16 @@ mod common;
 
 use common::lengths::{self, Longer};
 use common::lent::is_same;
+use common::letters::{self, meets_itself};
 use common::product::same_answer;
 use common::random::{from_both_seeds, Random};
 use common::tally::Tally;
 use common::twin::Twin;
-use common::variants::{self, alter_zone, rewrite};
+use common::variants::{self, alter_zone, respell, rewrite};
 use common::zones::{self, names_in, Stock};
 use jespurla::raw::{self, SameAnswer};
 use second::lookup::same;
-use second::zone::{as_set, Zone, FREE, PLACES};
+use second::zone::{as_set, Entry, Zone, FREE, PLACES};
 
 /// Pairs of zones compared by one run, at the least.
 const PAIRS: usize = 250_000;
@@ -33,6 +34,9 @@ const KINDS: &[&str] = &[
     "same: both of 64 names",
     "other: both of 64 names",
     "drawn apart",
+    letters::OTHER_LETTERS,
+    "same: names in other letters",
+    "other: names in other letters",
     "17: left length",
     "17: right length",
     "17: both lengths",
@@ -49,6 +53,8 @@ const SIDES: [(&str, [bool; 2]); 3] = [
 struct Run {
     random: Random,
     tally: Tally,
+    /// Pairs that were answered.
+    answered: usize,
     /// The faults of zones, for each of the sides.
     broken: [Tally; SIDES.len()],
 }
@@ -59,6 +65,7 @@ impl Run {
         Run {
             random: Random::new(seed),
             tally: Tally::new(&lists),
+            answered: 0,
             broken: SIDES.map(|_| Tally::new(&[zones::FAULTS])),
         }
     }
@@ -78,7 +85,24 @@ impl Run {
             panic!("the programs differ, seed {}", self.random.seed);
         }
         self.count(got);
+        if let Ok(same) = expected {
+            self.count_letters(left, right, same);
+        }
         expected
+    }
+
+    /// Counts an answered pair, and whether a name stands in other letters in
+    /// one than in the other.
+    fn count_letters(&mut self, left: &Zone, right: &Zone, same: bool) {
+        self.answered += 1;
+        let met = |entry: &Entry| entry.kind != FREE && meets_itself(right, &entry.name);
+        if left.entries.iter().any(met) {
+            self.tally.count(letters::OTHER_LETTERS);
+            self.tally.count(match same {
+                true => "same: names in other letters",
+                false => "other: names in other letters",
+            });
+        }
     }
 
     fn count(&mut self, got: SameAnswer) {
@@ -102,7 +126,11 @@ impl Run {
     fn rewrite(&mut self, zone: &mut Zone) -> Vec<&'static str> {
         let times = self.random.between(0, REWRITES);
         let ways = (0..times).filter_map(|_| rewrite(&mut self.random, zone));
-        ways.collect()
+        let mut ways: Vec<&str> = ways.collect();
+        if self.random.one_in(6) && respell(&mut self.random, zone) {
+            ways.push(variants::LETTERS);
+        }
+        ways
     }
 
     /// A zone and itself, written again.
@@ -220,6 +248,8 @@ impl Run {
         let seed = self.random.seed;
         let title = format!("seed {seed}, pairs of zones");
         self.tally.report(&title, PAIRS, EACH);
+        self.tally
+            .assert_third(letters::OTHER_LETTERS, self.answered);
         for (tally, (side, _)) in self.broken.iter().zip(SIDES) {
             tally.report(&format!("seed {seed}, {side}"), EACH, EACH);
         }

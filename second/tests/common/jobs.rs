@@ -6,7 +6,7 @@ use second::zone::{Address, Dhcid, Entry, Name, Set, Zone, FREE, HELD, PLACES, S
 
 use super::random::Random;
 use super::requests::{Kind, Request};
-use super::zones::Stock;
+use super::zones::{again, filler, Stock};
 
 /// The stages of adds and removes, ended or not.
 pub const STAGES: [u8; 11] = [
@@ -93,13 +93,6 @@ fn near_addresses(random: &mut Random) -> Vec<Address> {
     addresses
 }
 
-/// The same name with other octets past its length.
-fn again(random: &mut Random, name: &Name) -> Name {
-    let mut name = *name;
-    random.fill(&mut name.octets[usize::from(name.len)..]);
-    name
-}
-
 impl Pool {
     pub fn new(random: &mut Random) -> Pool {
         let stock = Stock::new(random);
@@ -169,14 +162,15 @@ impl Pool {
     /// A zone of these names, and of others until `filled` are there.
     fn zone_of(&self, random: &mut Random, mut names: Vec<Name>, filled: usize) -> Zone {
         while names.len() < filled {
-            let number = b'0' + names.len() as u8;
-            let octets = [5, b'f', b'i', b'l', b'l', number, 0];
-            names.push(Name::new(&octets).expect("short"));
+            names.push(filler(names.len()));
         }
         let mut zone = Zone::EMPTY;
         for (at, entry) in zone.entries.iter_mut().enumerate() {
             *entry = match names.get(at) {
-                Some(name) => self.entry(random, *name),
+                Some(name) => {
+                    let name = again(random, name);
+                    self.entry(random, name)
+                }
                 None => self.free(random),
             };
         }
@@ -224,14 +218,18 @@ impl Pool {
             policy: 0,
             ..self.request(random)
         };
-        let kind = |kind| Request { kind, ..other };
-        let mut add = kind(Kind::A);
+        let mut kind = |kind| Request {
+            kind,
+            name: again(random, &other.name),
+            ..other
+        };
+        let removes = [Kind::RemoveFirst; 3].map(&mut kind);
+        let [mut add, second, third] = [Kind::A; 3].map(kind);
         if random.one_in(2) {
             add.dhcid[random.below(35)] ^= 1;
             add.address = random.pick(&self.addresses);
         }
-        let remove = kind(Kind::RemoveFirst);
-        let jobs = vec![add, remove, remove, remove, kind(Kind::A), kind(Kind::A)];
+        let jobs = [&[add], &removes[..], &[second, third]].concat();
         let between: [&[usize]; 5] = [&[1, 1], &[4], &[2, 2], &[5], &[3, 3]];
         let left_out = random.pick(&[1, 2, 2, 3, 4, 4, between.len(), between.len()]);
         let mut steps = vec![0];
@@ -256,7 +254,7 @@ impl Pool {
         let at = known.unwrap_or_else(|| random.below(PLACES));
         let mut entry = Entry {
             kind: HELD,
-            name: job.name,
+            name: again(random, &job.name),
             dhcid: job.dhcid,
             ..Entry::FREE
         };

@@ -9,6 +9,7 @@ pub mod jobs;
 pub mod leases;
 pub mod lengths;
 pub mod lent;
+pub mod letters;
 pub mod moments;
 pub mod names;
 pub mod product;

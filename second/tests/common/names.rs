@@ -2,6 +2,13 @@
 
 use super::random::Random;
 
+/// An octet of a label: a letter of either case mostly, else any.
+pub fn label_octet(random: &mut Random) -> u8 {
+    let letter = b'A' + random.below(26) as u8;
+    let any = random.octet();
+    random.pick(&[letter, letter.to_ascii_lowercase(), any])
+}
+
 /// Appends labels of exactly `octets` octets in all; 1 can't be met.
 fn push_labels(random: &mut Random, octets: usize, name: &mut Vec<u8>) {
     assert_ne!(octets, 1);
@@ -25,9 +32,7 @@ fn push_labels(random: &mut Random, octets: usize, name: &mut Vec<u8>) {
             label
         };
         name.push(label as u8);
-        let start = name.len();
-        name.resize(start + label, 0);
-        random.fill(&mut name[start..]);
+        name.extend((0..label).map(|_| label_octet(random)));
     }
 }
 

@@ -23,6 +23,15 @@ impl Tally {
         self.counts[at] += 1;
     }
 
+    /// Fails unless a kind came up in about a third of so many cases.
+    pub fn assert_third(&self, kind: &str, cases: usize) {
+        let at = self.kinds.iter().position(|&known| known == kind);
+        let count = self.counts[at.expect("a listed kind")];
+        println!("{kind}: {count} of {cases}");
+        let third = 7 * cases / 24..=10 * cases / 24;
+        assert!(third.contains(&count), "not about a third");
+    }
+
     /// Prints the table and fails where a kind came up less than `each`
     /// times, or all together less than `cases` times.
     pub fn report(&self, title: &str, cases: usize, each: usize) {

@@ -2,6 +2,7 @@
 
 use second::zone::{check, Entry, Name, Set, Zone, FREE, HELD, PLACES, SET_MAX, STATIC};
 
+use super::letters::{is_spelled_alike, respelled};
 use super::random::Random;
 use super::zones::{shuffle, some_place};
 
@@ -9,8 +10,11 @@ use super::zones::{shuffle, some_place};
 /// change, and is then as before.
 type Change = fn(&mut Random, &mut Zone) -> bool;
 
+/// What putting the names in other letters is called.
+pub const LETTERS: &str = "same: letters of names";
+
 /// Changes that leave a zone the same.
-const REWRITES: [(&str, Change); 9] = [
+const REWRITES: [(&str, Change); 10] = [
     ("same: places", |random, zone| {
         shuffle(random, zone);
         true
@@ -34,6 +38,7 @@ const REWRITES: [(&str, Change); 9] = [
             !past.is_empty()
         })
     }),
+    (LETTERS, respell),
     ("same: DHCID of a static name", |random, zone| {
         at_every_name(zone, |entry| {
             let is_static = entry.kind == STATIC;
@@ -48,7 +53,7 @@ const REWRITES: [(&str, Change); 9] = [
 ];
 
 /// Changes that make it another one.
-const DIFFERENCES: [(&str, Change); 16] = [
+const DIFFERENCES: [(&str, Change); 17] = [
     ("other: a name less", |random, zone| {
         at_some_name(random, zone, |_, entry| {
             entry.kind = FREE;
@@ -58,10 +63,14 @@ const DIFFERENCES: [(&str, Change); 16] = [
     ("other: a name more", add_name),
     ("other: an octet of a name", |random, zone| {
         at_some_name(random, zone, |random, entry| {
+            let before = entry.name;
             let last = usize::from(entry.name.len) - 2;
             entry.name.octets[random.pick(&[1, last])] ^= 1 << random.below(8);
-            true
+            entry.name != before
         })
+    }),
+    ("other: bit 5 of no letter of a name", |random, zone| {
+        at_some_name(random, zone, flip_no_letter)
     }),
     ("other: a name with a label more", |random, zone| {
         at_some_name(random, zone, |_, entry| {
@@ -164,6 +173,26 @@ fn at_some_name(
         }
         changed
     })
+}
+
+/// Puts the names in other letters; false where they have none.
+pub fn respell(random: &mut Random, zone: &mut Zone) -> bool {
+    at_every_name(zone, |entry| {
+        let before = entry.name;
+        let other = respelled(random, before.as_slice());
+        entry.name.octets[..other.len()].copy_from_slice(&other);
+        !is_spelled_alike(&entry.name, &before)
+    })
+}
+
+/// Changes bit 5 of an octet of a name that is no letter; false where the name
+/// is not full then, as a length octet may have been changed.
+fn flip_no_letter(random: &mut Random, entry: &mut Entry) -> bool {
+    let name = entry.name.as_slice();
+    let others = (0..name.len()).filter(|&at| !name[at].is_ascii_alphabetic());
+    let others: Vec<usize> = others.collect();
+    entry.name.octets[random.pick(&others)] ^= 0x20;
+    entry.name.is_full()
 }
 
 /// Gives a name another kind; false where it has that already.

@@ -1,11 +1,14 @@
 //! Zones and requests: sound ones drawn from a few names, owners and
 //! addresses, and broken ones of every kind.
 
+use std::collections::BTreeMap;
+
 use second::name_option::{shape, Shape};
 use second::zone::{
     as_set, Address, Dhcid, Entry, Name, Set, Zone, FREE, HELD, PLACES, SET_MAX, STATIC,
 };
 
+use super::letters::{self, is_spelled_alike, respelled};
 use super::names;
 use super::random::Random;
 use super::requests::{Kind, Request};
@@ -19,7 +22,11 @@ pub const FAULTS: &[&str] = &[
     "17: address twice, family 4",
     "17: address twice, family 6",
     "17: name twice",
+    "17: name twice in other letters",
 ];
+
+/// Names that a stock has.
+const STOCK_NAMES: usize = 5;
 
 /// What a chain's zones and requests are made of.
 pub struct Stock {
@@ -40,31 +47,46 @@ pub fn name_of(random: &mut Random, octets: &[u8]) -> Name {
     name
 }
 
-/// The same name with other octets past its length.
-fn again(random: &mut Random, name: &Name) -> Name {
+/// The same name, at times in other letters, with other octets past its
+/// length.
+pub fn again(random: &mut Random, name: &Name) -> Name {
+    if random.one_in(3) {
+        let other = respelled(random, name.as_slice());
+        return name_of(random, &other);
+    }
     name_of(random, name.as_slice())
 }
 
-/// Names of which some differ in one octet and some are longer than others.
+/// Names of which some differ in one octet, or in one bit of no letter, and
+/// some are longer than others.
 fn stock_names(random: &mut Random) -> Vec<Name> {
-    let mut made = vec![names::some_full(random)];
-    while made.len() < 5 {
-        let mut near = made[random.below(made.len())].clone();
-        match random.below(4) {
-            // One octet of the first or the last label differs.
-            0 => {
-                let last = near.len() - 2;
-                near[random.pick(&[1, last])] ^= random.pick(&[1, 0x20, 0x80]);
-            }
-            1 if near.len() < 250 => near = [&[1, b'x'], &near[..]].concat(),
-            2 => near = names::full(random, 255),
-            _ => near = names::some_full(random),
-        }
-        if !made.contains(&near) {
-            made.push(near);
-        }
+    let first = names::some_full(random);
+    let mut made = vec![name_of(random, &first)];
+    while made.len() < STOCK_NAMES {
+        let known = random.pick(&made);
+        let near = near_names(random, known.as_slice());
+        let near = near.iter().map(|near| name_of(random, near));
+        let new: Vec<Name> = near.filter(|near| !made.contains(near)).collect();
+        made.extend(new);
     }
-    made.iter().map(|name| name_of(random, name)).collect()
+    made.truncate(STOCK_NAMES);
+    made
+}
+
+/// A name near another, or two near each other, or one drawn apart.
+fn near_names(random: &mut Random, name: &[u8]) -> Vec<Vec<u8>> {
+    match random.below(6) {
+        // One octet of the first or the last label differs.
+        0 => {
+            let mut near = name.to_vec();
+            near[random.pick(&[1, name.len() - 2])] ^= random.pick(&[1, 0x20, 0x80]);
+            vec![near]
+        }
+        1 if name.len() < 250 => vec![[&[1, b'x'], name].concat()],
+        2 => vec![names::full(random, 255)],
+        3 | 4 => letters::apart(random, name).to_vec(),
+        _ => vec![names::some_full(random)],
+    }
 }
 
 /// Three owners that differ in one octet each.
@@ -159,7 +181,7 @@ impl Stock {
                 let name = again(random, &self.names[(first + at) % self.names.len()]);
                 self.entry(random, name)
             } else if at < filled {
-                let name = name_of(random, &[5, b'f', b'i', b'l', b'l', b'0' + at as u8, 0]);
+                let name = again(random, &filler(at));
                 self.entry(random, name)
             } else {
                 self.free(random)
@@ -212,7 +234,7 @@ impl Stock {
         if entry.kind == FREE {
             *entry = self.entry(random, name);
         }
-        match random.below(9) {
+        match random.below(10) {
             0 => {
                 entry.kind = random.pick(&[3, 4, 128, 255]);
                 "17: kind"
@@ -237,14 +259,28 @@ impl Stock {
                 double(random, &mut entry.v6);
                 "17: address twice, family 6"
             }
-            _ => {
-                let copied = again(random, &entry.name);
-                let other = (at + random.between(1, PLACES - 1)) % PLACES;
-                zone.entries[other] = self.entry(random, copied);
-                "17: name twice"
-            }
+            _ => self.double_name(random, zone, at),
         }
     }
+
+    /// Puts the name of a place at another one too; what that is called.
+    fn double_name(&self, random: &mut Random, zone: &mut Zone, at: usize) -> &'static str {
+        let name = zone.entries[at].name;
+        let copied = again(random, &name);
+        let other = (at + random.between(1, PLACES - 1)) % PLACES;
+        zone.entries[other] = self.entry(random, copied);
+        if is_spelled_alike(&name, &copied) {
+            "17: name twice"
+        } else {
+            "17: name twice in other letters"
+        }
+    }
+}
+
+/// One of 64 names that are in no stock.
+pub fn filler(number: usize) -> Name {
+    let octets = [5, b'F', b'i', b'l', b'l', 128 + number as u8, 0];
+    Name::new(&octets).expect("short")
 }
 
 /// Makes two counted addresses of a set equal.
@@ -302,20 +338,30 @@ pub fn some_place(
     places.find(|&at| test(&zone.entries[at]))
 }
 
-/// Whether two places are free, or have the same name with the same owner and
-/// addresses in the same order.
+/// Whether two places are free, or have the same name in the same letters with
+/// the same owner and addresses in the same order.
 pub fn same_place(left: &Entry, right: &Entry) -> bool {
     if left.kind != right.kind || left.kind == FREE {
         return left.kind == right.kind;
     }
-    left.name == right.name
+    is_spelled_alike(&left.name, &right.name)
         && left.dhcid == right.dhcid
         && left.v4.as_slice() == right.v4.as_slice()
         && left.v6.as_slice() == right.v6.as_slice()
 }
 
-/// Whether two zones are the same; where every place agrees they are.
+/// The octets of each name that stands, found by the folded name.
+fn spellings(zone: &Zone) -> BTreeMap<Vec<u8>, &[u8]> {
+    let named = zone.entries.iter().filter(|entry| entry.kind != FREE);
+    named
+        .map(|entry| (entry.name.folded(), entry.name.as_slice()))
+        .collect()
+}
+
+/// Whether two zones are the same and have every name in the same letters;
+/// where every place agrees they do.
 pub fn same_zone(left: &Zone, right: &Zone) -> bool {
     let mut places = left.entries.iter().zip(&right.entries);
-    places.all(|(left, right)| same_place(left, right)) || as_set(left) == as_set(right)
+    places.all(|(left, right)| same_place(left, right))
+        || as_set(left) == as_set(right) && spellings(left) == spellings(right)
 }
