@@ -25,6 +25,9 @@ const KINDS: &[&str] = &[
     "refusal 14",
     "whole name",
     "completed name",
+    "whole name, letters of both cases",
+    "completed name, letters of both cases",
+    "completed name, letters of both cases in the suffix",
     "flags 0",
     "flags 1",
     "flags 2",
@@ -51,6 +54,9 @@ impl Run<3> {
         let [value, suffix, reply] = self.memory.second();
         let expected = answer(value, suffix, s != 0, n != 0, reply);
         let flags = if expected.is_ok() { reply[0] } else { 0 };
+        if let Ok(length) = expected {
+            assert_eq!(reply[1..length], completed(case), "octet for octet");
+        }
         let [value, suffix, reply] = self.memory.product();
         let got = raw::name_option_answer(value, suffix, s, n, reply);
         let same = got == name_answer(expected);
@@ -69,13 +75,26 @@ impl Run<3> {
             Err(refusal) => self.tally.count(&format!("refusal {refusal}")),
             Ok(_) => {
                 self.tally.count(&format!("flags {flags}"));
-                let whole = shape(&case.value[1..]) == Shape::Full;
-                self.tally.count(if whole {
-                    "whole name"
-                } else {
-                    "completed name"
-                });
+                self.count_name(case);
             }
+        }
+    }
+
+    fn count_name(&mut self, case: &Case) {
+        let name = &case.value[1..];
+        let whole = shape(name) == Shape::Full;
+        let title = if whole {
+            "whole name"
+        } else {
+            "completed name"
+        };
+        self.tally.count(title);
+        if has_both_cases(name) {
+            self.tally.count(&format!("{title}, letters of both cases"));
+        }
+        if !whole && has_both_cases(&case.suffix) {
+            self.tally
+                .count("completed name, letters of both cases in the suffix");
         }
     }
 
@@ -278,6 +297,19 @@ impl Run<3> {
         let title = format!("seed {}, name options", self.random.seed);
         self.tally.report(&title, CASES, EACH);
     }
+}
+
+/// The name that the answer to a sound case has.
+fn completed(case: &Case) -> Vec<u8> {
+    let name = &case.value[1..];
+    match shape(name) {
+        Shape::Full => name.to_vec(),
+        _ => [name, &case.suffix].concat(),
+    }
+}
+
+fn has_both_cases(name: &[u8]) -> bool {
+    name.iter().any(u8::is_ascii_uppercase) && name.iter().any(u8::is_ascii_lowercase)
 }
 
 #[test]
