@@ -155,11 +155,20 @@ fn longest(rows: &mut Table, order: &str, name: impl Fn(usize) -> Name) {
     send(rows, &format!("request B, {of}"), &there, &add);
 }
 
+/// Request B at the last of 63 names, with the name in capital letters.
+fn other_letters(rows: &mut Table) {
+    let there = Steady::new(63, short, THERE);
+    let name = Name::new(&there.name.as_slice().to_ascii_uppercase()).expect("short");
+    let add = request(Kind::B, name, OTHER, 1);
+    send(rows, "request B, other letters, zone of 63", &there, &add);
+}
+
 pub fn run(rows: &mut Table) {
     for count in [1, 4, 16, 64] {
         sizes(rows, "", count, short);
     }
     longest(rows, "", long);
+    other_letters(rows);
     for count in [4, 16, 64] {
         sizes(rows, ", shuffled", count, |at| short(shuffled(at)));
     }
