@@ -1,5 +1,6 @@
 //! The product's calls on a zone do with the stack that they are to do with,
-//! at names of as many labels as a name can have, in every place of the zone.
+//! at names of as many labels as a name can have, in every place of the zone,
+//! asked for in other letters than they stand in.
 
 mod common;
 
@@ -28,6 +29,11 @@ fn deep(number: usize) -> Name {
     }
     octets[254] = 0;
     Name::new(&octets).expect("255 octets")
+}
+
+/// The same name in capital letters.
+fn capital(number: usize) -> Name {
+    Name::new(&deep(number).as_slice().to_ascii_uppercase()).expect("255 octets")
 }
 
 /// A full zone of names that the owner holds.
@@ -75,7 +81,7 @@ fn run<T: PartialEq + Debug + Send>(
 fn request(kind: Kind, policy: u8) -> Request {
     Request {
         kind,
-        name: deep(LAST),
+        name: capital(LAST),
         dhcid: OWNER,
         family: 6,
         address: HERE,
@@ -90,7 +96,7 @@ fn job(stage: u8) -> Job {
         count: counts(stage).map_or(0, |possible| possible[0]),
         family: 6,
         policy: 1,
-        name: deep(LAST),
+        name: capital(LAST),
         dhcid: OWNER,
         address: HERE,
     }
@@ -121,13 +127,14 @@ fn lookups_do_with_their_stack() {
     for (zone, refusal) in zones() {
         let left = zone.twin();
         for number in (0..PLACES).rev() {
-            let name = deep(number);
+            let name = capital(number);
             let told = on_a_stack(stack, || raw::zone_find(&left, &name.twin()));
             assert_eq!(told, find_answer(find(&zone, &name)));
             assert_eq!(told.refusal, refusal);
         }
         for (mut other, _) in zones() {
             other.entries.reverse();
+            other.entries[0].name.octets.make_ascii_uppercase();
             let right = other.twin();
             let told = on_a_stack(stack, || raw::zone_same(&left, &right));
             assert_eq!(told, same_answer(same(&zone, &other)));
