@@ -9,7 +9,8 @@ pub mod InTime
 -- The calls that run, and those on a zone that is kept as octets.
 pub mod Running
 pub mod OnOctets
--- How the names are spelled at the end of a list.
+-- How the names are spelled after a request, and at the end of a list.
+pub mod KeepsOctets
 pub mod Spelled
 -- Lists of steps: P12, why removes can't be asked to answer alike, and names to be spelled alike.
 pub mod Cases

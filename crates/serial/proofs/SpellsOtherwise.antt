@@ -19,29 +19,12 @@ use Rattle.job.specs.Jobs.{Arguments, End, done, gone, Stage, ended, fresh, aft
 use Rattle.serial.specs.Demand.{going, times, InTurn, nobody, next, Explains, Story, Serializable}
 use Rattle.serial.specs.P12.{xDhcid, oneAddress, xHost, heldAt}
 use Rattle.serial.specs.Spelling.{spelledBySteps, spelledByJob, spelledInTurn, OBOE, oboe, xRemovesCapitals, xAddsSmall, SpellsOtherwise}
+use Rattle.serial.proofs.KeepsOctets.{respelled-there, respelled-idle}
 use Rattle.serial.proofs.Cases.{byRule, by-rule, form-one, r₃, r₄, between}
 use Rattle.serial.proofs.Demand.{stronger}
 use Rattle.serial.proofs.RemovesDiffer.{more, two}
 
 -- ---- what a job that has ended leaves spelled
-
-respelled-there : (n : Octets) (z : Zone) (sp : Spelling) (k : Octets) → there (respelled n z sp k) ≡ there (z .at k)
-unfolding respelled
-respelled-there n z sp k = go (there (z .at k))
-  where
-    go : (b : Bool) → there (cond b (some (kept n (sp k))) none) ≡ b
-    go true = refl
-    go false = refl
-
-respelled-idle : (n : Octets) (z : Zone) (sp : Spelling) (k : Octets) → there (sp k) ≡ there (z .at k) → respelled n z sp k ≡ sp k
-unfolding respelled
-respelled-idle n z sp k e = go (sp k) (there (z .at k)) e
-  where
-    go : (o : Option Octets) (b : Bool) → there o ≡ b → cond b (some (kept n o)) none ≡ o
-    go none true q = absurd (true≢false (sym q))
-    go none false q = refl
-    go (some x) true q = refl
-    go (some x) false q = absurd (true≢false q)
 
 idle-spelled : (j : Arguments) {z : Zone} (s : Stage) {y : Zone} {d : End} (e : End) (m : Sends j z s y d) → s ≡ ended e → (sp : Spelling) (k : Octets)
     → there (sp k) ≡ there (z .at k) → spelledByJob m sp k ≡ sp k

@@ -1,5 +1,6 @@
--- How names are spelled after a list of job steps, and after whole jobs in an order. Document 02, a).
+-- How names are spelled after a request, after a list of job steps, and after whole jobs in an order. Document 02, a).
 use mathlib.Core.Path.{_≡_}
+use mathlib.Core.Bool.{true}
 use mathlib.Core.List.{List, [], _∷_}
 use mathlib.Core.Option.{some}
 use Prim.Native.Nat.{ℕ}
@@ -8,7 +9,8 @@ use Rattle.addresses.specs.Addresses.{four}
 use Rattle.dname.specs.Name.{key}
 use Rattle.zone.specs.declared.Zone.{Zone}
 use Rattle.update.specs.Rules as rules
-use Rattle.update.specs.Rules.{Update, keepOthers}
+use Rattle.update.specs.Rules.{there, Update, Policy, keepOthers, Outcome, success, requestA, requestB, removeAddress, removeName}
+use Rattle.update.specs.Meaning.{zoneOf}
 use Rattle.update.specs.Spelling.{Spelling, spellingOf, respelled}
 use Rattle.lentzone.specs.Decode.{zoneIn}
 use Rattle.job.specs.Jobs.{add, remove, Arguments, End, done, kept, Stage, step, Sends, hasEnded, sends}
@@ -17,7 +19,40 @@ use Rattle.serial.specs.Running.{running}
 use Rattle.serial.specs.OnOctets.{onOctets}
 use Rattle.serial.specs.P12.{xDhcid, address1}
 
--- ---- what is determined
+-- ---- requests
+
+-- A spelling of a zone: a name is spelled exactly where it stands.
+abbrev pub SpellingFor : Spelling → rules.Zone → Type 0
+SpellingFor sp z = (k : Octets) → there (sp k) ≡ there (z .at k)
+
+-- Any of the four requests, and what it comes to.
+pub data Asked (u : Update) (z : rules.Zone) : Outcome → Type 0 where
+  asksA : Asked u z (requestA u z)
+  asksB : (p : Policy) → Asked u z (requestB p u z)
+  asksFirst : Asked u z (removeAddress u z)
+  asksSecond : Asked u z (removeName u z)
+
+-- What the rule comes to at each name. A name that stood and stands has the octets that it had, whoever wrote to it; one that request A adds
+-- has those of the request; one that was deleted and is added again has the new ones; no other name is respelled.
+pub record KeepsOctets : Type 0 where
+  pub stood : (u : Update) (z : rules.Zone) (o : Outcome) (sp : Spelling) → Asked u z o → SpellingFor sp z
+      → (k : Octets) → there (z .at k) ≡ true → there (o .zone .at k) ≡ true → respelled (u .name) (o .zone) sp k ≡ sp k
+  pub new : (u : Update) (z : rules.Zone) (sp : Spelling) → SpellingFor sp z → requestA u z .answer ≡ success
+      → respelled (u .name) (requestA u z .zone) sp (key (u .name)) ≡ some (u .name)
+  pub again : (u v : Update) (z : rules.Zone) (sp : Spelling) → removeName u z .answer ≡ success → key (v .name) ≡ key (u .name)
+      → requestA v (removeName u z .zone) .answer ≡ success
+      → respelled (v .name) (requestA v (removeName u z .zone) .zone) (respelled (u .name) (removeName u z .zone) sp) (key (u .name)) ≡ some (v .name)
+  pub elsewhere : (u : Update) (z : rules.Zone) (o : Outcome) (sp : Spelling) → Asked u z o → SpellingFor sp z
+      → (k : Octets) → ¬ (key (u .name) ≡ k) → respelled (u .name) (o .zone) sp k ≡ sp k
+  -- and it is a spelling of the zone again
+  pub spellsAgain : (n : Octets) (z : rules.Zone) (sp : Spelling) → SpellingFor (respelled n z sp) z
+
+-- Of a zone by value: the spelling is one of what it means, and each name has the key by which it is found.
+pub record SpellsZone (z : Zone) : Type 0 where
+  pub spells : SpellingFor (spellingOf z) (zoneOf z)
+  pub keyed : (k octets : Octets) → spellingOf z k ≡ some octets → key octets ≡ k
+
+-- ---- lists of steps
 
 -- The list of steps: each that is not refused respells as a request about its job's name.
 module _ (C : Calls) where
