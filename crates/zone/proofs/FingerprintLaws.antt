@@ -17,7 +17,7 @@ use Rattle.octets.proofs.CompareLaws.{same-differ}
 use Rattle.dname.specs.Name.{lower, key, sameName}
 use Rattle.dname.proofs.KeyLaws.{Octet, below, capital, above, octet, key-length, key-at}
 use Rattle.octets.specs.Count.{Octets, member, distinct}
-use Rattle.zone.specs.Survey.{folded, caselessAt, wordAt, wrapped, fingerprintFrom, fingerprintWords, fingerprintOf, among, markOf, repeated}
+use Rattle.zone.specs.Survey.{folded, caselessAt, wordAt, endsOf, wrapped, fingerprintFrom, fingerprintWords, fingerprintOf, among, markOf, repeated}
 
 pub prefix-length : {A : Type 0} (l : List A) (n : ℕ) → n ≤ length l → n ≡ length (take n l)
 prefix-length l n h = sym (length-take-le n l h)
@@ -32,12 +32,16 @@ caseless-lower x = go (octet x)
     go (capital h k e) = ap caseless e ∙ caseless-letter x (omega arith) (omega arith)
     go (above h e) = ap caseless e
 
+at-key : (s : List ℕ) (k : ℕ) → caselessAt (key s) k ≡ caselessAt s k
+at-key s k = ap caseless (key-at s k) ∙ caseless-lower (getD s k 0)
+
 word-key : (s : List ℕ) (i : ℕ) → wordAt (key s) i ≡ wordAt s i
 unfolding wordAt
-word-key s i = rw (at i, at (i + 1), at (i + 2), at (i + 3), at (i + 4), at (i + 5), at (i + 6), at (i + 7)) refl
-  where
-    at : (k : ℕ) → caselessAt (key s) k ≡ caselessAt s k
-    at k = ap caseless (key-at s k) ∙ caseless-lower (getD s k 0)
+word-key s i = rw (at-key s i, at-key s (i + 1), at-key s (i + 2), at-key s (i + 3), at-key s (i + 4), at-key s (i + 5), at-key s (i + 6), at-key s (i + 7)) refl
+
+ends-key : (s : List ℕ) → endsOf (key s) ≡ endsOf s
+unfolding endsOf
+ends-key s = rw (key-length s, at-key s 0, at-key s 1, at-key s 2, at-key s 3, at-key s (length s - 4), at-key s (length s - 3), at-key s (length s - 2), at-key s (length s - 1)) refl
 
 from-key : (n i p q : ℕ) (s : List ℕ) → fingerprintFrom n i p q (key s) ≡ fingerprintFrom n i p q s
 unfolding fingerprintFrom
@@ -47,7 +51,7 @@ from-key (suc n) i p q s = rw (word-key s i) (from-key n (i + 8) (wrapped (p + w
 -- the one place where a fingerprint of octets is one of the key
 pub fingerprint-key : (name : Octets) → fingerprintWords name ≡ fingerprintOf name
 unfolding fingerprintWords
-fingerprint-key name = rw (key-length name, word-key name 0, from-key ((length name - 1) / 8) 0 0 0 name) refl
+fingerprint-key name = rw (key-length name, ends-key name, from-key ((length name - 1) / 8) 0 0 0 name) refl
 
 -- names with different fingerprints are different
 pub fingerprint-differ : (a b : Octets) → (fingerprintOf a ≡ fingerprintOf b → ⊥) → sameName a b ≡ false
@@ -60,9 +64,13 @@ fingerprint-differ a b h = same-differ fingerprintWords (key a) (key b) h
 abbrev pub more : List ℕ → ℕ → ℕ → ℕ
 more s i p = wrapped (p + wordAt s i)
 
-pub fingerprint-short : (s : List ℕ) → length s < 8 → fingerprintWords s ≡ folded (wordAt s 0)
+pub fingerprint-least : (s : List ℕ) → length s < 4 → fingerprintWords s ≡ 0
 unfolding fingerprintWords
-fingerprint-short s h = rw (lt-ltb (length s) 8 h)
+fingerprint-least s h = rw (lt-ltb (length s) 8 (omega arith), lt-ltb (length s) 4 h)
+
+pub fingerprint-short : (s : List ℕ) → 4 ≤ length s → length s < 8 → fingerprintWords s ≡ folded (endsOf s)
+unfolding fingerprintWords
+fingerprint-short s l h = rw (lt-ltb (length s) 8 h, le-ltb (length s) 4 l)
 
 pub fingerprint-long : (s : List ℕ) → 8 ≤ length s → fingerprintWords s ≡ fingerprintFrom ((length s - 1) / 8) 0 0 0 s
 unfolding fingerprintWords

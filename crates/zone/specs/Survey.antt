@@ -38,9 +38,13 @@ unfoldable pub fingerprintFrom : ℕ → ℕ → ℕ → ℕ → List ℕ → �
 fingerprintFrom zero i sum sums s = folded (wrapped (sums + wrapped (sum + wordAt s (length s - 8))))
 fingerprintFrom (suc n) i sum sums s = fingerprintFrom n (i + 8) (wrapped (sum + wordAt s i)) (wrapped (sums + wrapped (sum + wordAt s i))) s
 
--- fewer than eight octets are one word
+-- four to seven octets: the first four and the last four as one number
+unfoldable pub endsOf : Octets → ℕ
+endsOf s = value (caselessAt s 0 ∷ caselessAt s 1 ∷ caselessAt s 2 ∷ caselessAt s 3 ∷ caselessAt s (length s - 4) ∷ caselessAt s (length s - 3) ∷ caselessAt s (length s - 2) ∷ caselessAt s (length s - 1) ∷ [])
+
+-- fewer than four octets, names of one label of one octet, have none of their own
 unfoldable pub fingerprintWords : Octets → ℕ
-fingerprintWords s = cond (ltb (length s) 8) (folded (wordAt s 0)) (fingerprintFrom ((length s - 1) / 8) 0 0 0 s)
+fingerprintWords s = cond (ltb (length s) 8) (cond (ltb (length s) 4) 0 (folded (endsOf s))) (fingerprintFrom ((length s - 1) / 8) 0 0 0 s)
 
 abbrev pub fingerprintOf : Octets → ℕ
 fingerprintOf name = fingerprintWords (key name)

@@ -1,10 +1,9 @@
 // Fingerprints of names: where two differ, the names do. Numbers are quicker to compare than names.
-use octets::number;
 use octets::word;
 ghost use mathlib.Core.Path.{_≡_};
 ghost use Prim.Native.Nat.{_<_, _≤_, _+_};
 ghost use lib.ListN.{length, drop};
-ghost use Rattle.zone.specs.Survey.{folded, wordAt, fingerprintWords, among, markOf, repeated};
+ghost use Rattle.zone.specs.Survey.{folded, wordAt, endsOf, fingerprintWords, among, markOf, repeated};
 
 // The eight octets from a place on, without the bits that tell capital letters.
 fn word(s: &[u8], i: usize) -> u64
@@ -36,22 +35,33 @@ fn wide(x: u32) -> u64
     x as u64
 }
 
-// Of fewer than eight octets.
+// The first four octets and the last four.
+fn ends(s: &[u8]) -> u64
+    requires { ⌜ 4 ≤ length (now s) ⌝ }
+    ensures { λ r. ⌜ r ≡ endsOf (now (s .entry)) ⌝ }
+{
+    let n = s.len();
+    word::eight_caseless(
+        s[0],
+        s[1],
+        s[2],
+        s[3],
+        s[n - 4],
+        s[n - 3],
+        s[n - 2],
+        s[n - 1],
+    )
+}
+
+// Of fewer than eight octets. Fewer than four, a name of one label of one octet, have none of their own.
 fn of_short(s: &[u8]) -> u32
     requires { ⌜ length (now s) < 8 ⌝ }
     ensures { λ r. ⌜ r ≡ fingerprintWords (now (s .entry)) ⌝ }
 {
-    let w = word::eight_caseless(
-        number::octet_at(s, 0),
-        number::octet_at(s, 1),
-        number::octet_at(s, 2),
-        number::octet_at(s, 3),
-        number::octet_at(s, 4),
-        number::octet_at(s, 5),
-        number::octet_at(s, 6),
-        number::octet_at(s, 7),
-    );
-    fold(w)
+    if s.len() < 4 {
+        return 0;
+    }
+    fold(ends(s))
 }
 
 // Words of eight octets are summed up, and their running sums in turn, so that it matters where a word
