@@ -38,7 +38,6 @@ respelled-idle n z sp k e = go (sp k) (there (z .at k)) e
     go (some x) true q = refl
     go (some x) false q = absurd (true≢false q)
 
-
 effect : {u : Update} {z : Zone} {o : Outcome} → Asked u z o → Effect u z o
 effect {u} {z} asksA = A-effect u z
 effect {u} {z} (asksB p) = B-effect u z p

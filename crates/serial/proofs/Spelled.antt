@@ -22,7 +22,7 @@ use Rattle.serial.specs.Spelling.{spelledBySteps, SpelledBySteps, Spelle
 
 module _ (C : Calls) (spelling : C .Z → Spelling)
     (each : (z : C .Z) (k : C .J) (r : C .R) → C .Step z k r → C .refusal r ≡ 0
-      → spelling (C .zone r) ≡ respelled (C .jobOf k .arguments .update .name) (C .zoneOf (C .zone r)) (spelling z)) where
+    → spelling (C .zone r) ≡ respelled (C .jobOf k .arguments .update .name) (C .zoneOf (C .zone r)) (spelling z)) where
   spelled-steps : SpelledBySteps C spelling
   unfolding spelledBySteps
   spelled-steps z₀ z ks₀ ks start = refl

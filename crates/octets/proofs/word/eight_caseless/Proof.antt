@@ -17,7 +17,7 @@ returns c =
     let f = s .fits in
     ap (λ (x : ℕ). bitOr x (bitAnd (x / 2) 0x2020_2020_2020_2020)) (c .eight .ensures)
     ∙ value-caseless (a .a ∷ a .b ∷ a .c ∷ a .d ∷ a .e ∷ a .f ∷ a .g ∷ a .h ∷ [])
-        (f .a .fits, (f .b .fits, (f .c .fits, (f .d .fits, (f .e .fits, (f .f .fits, (f .g .fits, (f .h .fits, tt))))))))
+    (f .a .fits, (f .b .fits, (f .c .fits, (f .d .fits, (f .e .fits, (f .f .fits, (f .g .fits, (f .h .fits, tt))))))))
 
 pub eight-caseless-spec : {M : Type 1} → statement M
 eight-caseless-spec = tie.close (tie.spec eight-requires returns)
