@@ -10,7 +10,7 @@ use lib.Seq.{length-take-le, take-suc-set, drop-set-lt, drop-drop}
 use borrow.Author.Tests.{lt-ltb, le-ltb}
 use Rattle.octets.specs.Compare.{sameOctets}
 use Rattle.octets.specs.Count.{Octets, member, without}
-use Rattle.addresses.specs.Addresses.{Counted, held, listed, joined, added, Added, others, inFront, removed, Removed}
+use Rattle.addresses.specs.Addresses.{Counted, held, listed, added, Added, others, inFront, removed, Removed}
 use Rattle.addresses.proofs.CountedLaws.{Four, Places, held-cons, held-end, count-length}
 use Rattle.addresses.proofs.SetLaws.{joined-there, joined-full, joined-new}
 

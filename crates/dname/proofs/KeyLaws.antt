@@ -1,21 +1,18 @@
 -- The laws of folding: what it leaves of a name, and when two names are equal. Assumes nothing.
 use mathlib.Core.Path.{_≡_, refl, sym, _∙_, ap, ap₂}
-use mathlib.Core.Bool.{Bool, true, false, cond, _&&_, and-false}
+use mathlib.Core.Bool.{Bool, true, false, and-false}
 use mathlib.Core.List.{List, [], _∷_, _++_, map}
 use mathlib.Core.Logic.{_⊎_, inl, inr}
 use Prim.Native.Nat.{ℕ, zero, suc, _+_, _≤_, _<_}
 use native.Mathlib.Omega.{arith}
-use lib.Dec.{ltb, leb}
+use lib.Dec.{ltb}
 use lib.ListN.{length, getD, drop, length-map, List·getD-map}
-use borrow.Author.Tests.{lt-ltb, le-ltb, le-leb, lt-leb, ltb-true, ltb-false}
-use borrow.Table.Steps.{cases}
+use borrow.Author.Tests.{le-leb, lt-leb, ltb-true, ltb-false}
 use Rattle.octets.specs.Compare.{sameOctets}
 use Rattle.octets.proofs.CompareLaws.{same-true, same-lengths, same-unlike, same-alike, same-end}
 use Rattle.dname.specs.Name.{labelsOf, limited, shapeOf, lower, key, sameName}
 use Rattle.dname.specs.Grammar.{Label}
 use Rattle.dname.specs.Folding.{OneLetter, FoldsLabels}
-use Rattle.dname.specs.declared.Shape.{Shape}
-use Rattle.dname.specs.declared.Shape.the-variants.{Empty, Full, Partial, Malformed}
 use Rattle.dname.proofs.NameLaws.{begun, too-long, shape-limited, key-same-name}
 
 -- ---- one octet

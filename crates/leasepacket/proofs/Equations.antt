@@ -1,12 +1,11 @@
 -- The equations of options. Assumes nothing.
-use Prim.Native.Nat.{ℕ, suc, _<_}
-use mathlib.Core.Path.{_≡_, refl, ap, _∙_}
+use Prim.Native.Nat.{ℕ, _<_}
+use mathlib.Core.Path.{_≡_, refl, ap}
 use mathlib.Core.List.{List, [], _∷_, _++_}
-use mathlib.Core.Option.{Option, none, some}
-use native.Mathlib.Omega.{arith}
+use mathlib.Core.Option.{none}
 use borrow.Author.Tests.{ne-eqb}
 use lib.ListN.{length, take}
-use Rattle.leasepacket.specs.Options.{Opt, followed, options}
+use Rattle.leasepacket.specs.Options.{followed, options}
 use Rattle.leasepacket.specs.Grammar.{Code, Equations}
 use Rattle.leasepacket.proofs.OptionLaws.{skip-past}
 

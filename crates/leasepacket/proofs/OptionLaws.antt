@@ -20,7 +20,7 @@ use Rattle.leasepacket.specs.declared.options.Step.the-variants.{More, D
 use Rattle.leasepacket.specs.declared.options.Walk.the-variants.{Found, Faulty}
 use Rattle.leasepacket.specs.Options.{Opt, followed, options, values, valuesOf, atMostOnce, hasOptions}
 use Rattle.leasepacket.specs.Reading.{before, idPlace}
-use Rattle.leasepacket.specs.Places.{onceKind, onceId, notedOf, stepOf, value, In, ReadAs, Stands, Tells}
+use Rattle.leasepacket.specs.Places.{onceKind, onceId, notedOf, stepOf, value, In, Stands, Tells}
 
 -- ---- what the options come to: the values of the message type and of the client id, at most one of each, or a fault
 pub data Checked : Type 0 where

@@ -17,7 +17,6 @@ use zone::entry::Dhcid;
 use zone::entry::Entry;
 use zone::entry::Records;
 ghost use mathlib.Core.Path.{_≡_};
-ghost use mathlib.Core.Bool.{_&&_};
 ghost use lib.ListN.{length};
 ghost use Rattle.addresses.specs.Addresses.{list4, list6, sound};
 ghost use Rattle.zone.specs.Meaning.{soundSets};

@@ -6,9 +6,9 @@ use Prim.Native.Nat.{ℕ, zero, suc, _+_, _*_, _≤_, _<_}
 use native.Mathlib.Omega.{arith}
 use lib.ListN.{length, take, drop, length-append, length-drop, take-append-drop}
 use lib.Seq.{take-at, drop-at, length-take-le}
-use Rattle.rdnss.specs.Area.{isWhole, options, lengthOf}
+use Rattle.rdnss.specs.Area.{isWhole, options}
 use Rattle.rdnss.specs.Grammar.{Option, Area, nothing, option, WalkAgrees}
-use Rattle.rdnss.proofs.AreaLaws.{whole-skip, options-skip, whole-first, whole-end, options-end}
+use Rattle.rdnss.proofs.AreaLaws.{whole-skip, options-skip, whole-first, options-end}
 
 area-whole : (area : List ℕ) (found : List (List ℕ)) → Area area found → isWhole 0 area ≡ true
 unfolding isWhole

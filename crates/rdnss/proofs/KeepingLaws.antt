@@ -1,9 +1,9 @@
 -- What the keys of an option leave of entries that they do not name: all but what was evicted. Assumes nothing.
 use mathlib.Core.Path.{_≡_, refl, ap, sym, subst, _∙_}
-use mathlib.Core.Bool.{Bool, true, false, not, cond, _&&_, _||_, or-true, or-false, false≢true}
-use mathlib.Core.List.{List, [], _∷_, _++_, map, foldl}
-use Prim.Native.Nat.{ℕ, _≤_, _<_}
-use lib.Dec.{ltb, leb}
+use mathlib.Core.Bool.{Bool, true, false, cond, _||_, or-true, or-false, false≢true}
+use mathlib.Core.List.{List, [], _∷_, _++_, foldl}
+use Prim.Native.Nat.{_≤_, _<_}
+use lib.Dec.{ltb}
 use lib.ListN.{length, length-map}
 use native.Mathlib.Omega.{arith}
 use borrow.Author.Tests.{ltb-false, le-leb}
@@ -11,7 +11,7 @@ use Rattle.octets.proofs.BoolLaws.{or-left, or-right}
 use Rattle.serverlist.specs.Entries.{Kind, Marked, places, keep, oneOf, isAbout, isHeld, removed, renewed, evicted, roomed, items, inserted, marking, named}
 use Rattle.serverlist.proofs.EntryLaws.{cond-case}
 use Rattle.serverlist.proofs.SoundLaws.{Lawful, lawful-marking, inserted-one}
-use Rattle.rdnss.specs.Claims.{Evicts, Less, none, stays, goes, hasNoRoom, fullLists, WasEvicted, here, later, HeldOrEvicted, isThere, wasThere}
+use Rattle.rdnss.specs.Claims.{Evicts, Less, none, stays, goes, hasNoRoom, fullLists, WasEvicted, here, later}
 use Rattle.rdnss.proofs.NamingLaws.{items-one, items-keep, items-evicted, removed-keeps, renewed-keeps, made-out, inserted-keeps}
 
 -- one of the list is there still, or went

@@ -1,6 +1,6 @@
 -- The laws of one option's keys: what they leave sound, absent and as it was. Assumes nothing.
 use mathlib.Core.Path.{_≡_, refl, ap, sym, _∙_}
-use mathlib.Core.Bool.{Bool, true, false, not, cond, _&&_, _||_, or-true, false≢true}
+use mathlib.Core.Bool.{Bool, true, false, not, cond, _&&_, _||_, false≢true}
 use mathlib.Core.List.{List, [], _∷_, map, foldl}
 use borrow.Author.Tests.{not-true}
 use Rattle.octets.proofs.BoolLaws.{and-both, and-left, and-right, or-left, or-right}

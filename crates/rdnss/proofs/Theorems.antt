@@ -10,7 +10,7 @@ use borrow.Author.Tests.{le-leb, eq-eqb, ne-eqb}
 use Rattle.octets.proofs.BoolLaws.{and-both, and-left, and-right, or-left, or-right}
 use Rattle.clock.specs.Clock.{isMoment, isExpiry, isPast, expiryAfter}
 use Rattle.clock.specs.declared.Moment.{Moment}
-use Rattle.serverlist.specs.Entries.{Kind, places, keep, unmarked, items, oneOf, each, isAbout, isHeld, distinct, evicted, namedAll}
+use Rattle.serverlist.specs.Entries.{Kind, places, keep, unmarked, oneOf, each, isAbout, isHeld, distinct, evicted, namedAll}
 use Rattle.serverlist.specs.Servers.{servers, held, packed, expires, isSound, isTimely, unexpired}
 use Rattle.serverlist.specs.declared.Address6.{Address6}
 use Rattle.serverlist.specs.declared.Server.{Server}

@@ -16,7 +16,7 @@ use Rattle.update.specs.Spelling.{Spelling, spellingOf, kept, respelled}
 use Rattle.update.proofs.ZoneLaws.{some≢none}
 use Rattle.request.proofs.PlaceLaws.{spellsAs}
 use Rattle.request.proofs.RequestLaws as effects
-use Rattle.request.proofs.RequestLaws.{Effect, A-effect, B-effect, remove-address-effect, remove-name-effect, A-after, remove-name-after}
+use Rattle.request.proofs.RequestLaws.{Effect, A-effect, B-effect, remove-address-effect, remove-name-effect, A-after}
 use Rattle.request.proofs.SpellingLaws.{spelled-there}
 use Rattle.serial.specs.Spelling.{SpellingFor, Asked, asksA, asksB, asksFirst, asksSecond, KeepsOctets, SpellsZone}
 

@@ -1,17 +1,16 @@
 -- Why demand 3 can't ask that names are spelled alike: a list of steps that keeps the octets of a name which every order that explains the list
 -- writes anew. Assumes nothing.
 use mathlib.Core.Path.{_≡_, refl, sym, _∙_, ap, subst}
-use mathlib.Core.Bool.{Bool, true, false, cond, true≢false}
+use mathlib.Core.Bool.{true, cond, true≢false}
 use mathlib.Core.List.{List, [], _∷_}
 use mathlib.Core.Option.{Option, none, some}
 use Prim.Native.Nat.{ℕ, zero, suc}
 use native.Mathlib.Omega.{arith}
-use lib.ListN.{getElem?}
 use Rattle.octets.specs.Compare.{sameOctets}
 use Rattle.octets.specs.Count.{Octets, member}
 use Rattle.dname.specs.Name.{key}
 use Rattle.addresses.specs.Addresses.{including, excluding}
-use Rattle.update.specs.Rules.{Host, Zone, there, with, heldBy, empty, newHost, requestA, left, fits, writeB, requestB, removeAddress, removeName, withName, withoutName, withAddress, withoutAddress, deleteName}
+use Rattle.update.specs.Rules.{Zone, there, with, heldBy, empty, newHost, requestA, left, fits, writeB, requestB, removeAddress, removeName, withName, withoutName, withAddress, withoutAddress, deleteName}
 use Rattle.update.specs.Spelling.{Spelling, kept, respelled}
 use Rattle.update.proofs.ZoneLaws.{some≢none}
 use Rattle.job.specs.Jobs as jobs

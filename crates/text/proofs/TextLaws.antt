@@ -1,15 +1,15 @@
 -- The laws of numbers and octets as text. Assumes nothing.
 use mathlib.Core.Path.{_≡_, refl, sym, ap, _∙_}
 use mathlib.Core.Bool.{Bool, true, false, cond}
-use mathlib.Core.List.{List, [], _∷_, _++_, append-assoc, foldl}
+use mathlib.Core.List.{List, [], _∷_, _++_, foldl}
 use Prim.Native.Nat.{ℕ, zero, suc, _+_, _-_, _*_, _/_, _%_, _^_, _≤_, _<_}
 use native.Mathlib.Omega.{arith}
 use native.Mathlib.Nat.{pow-suc}
 use lib.Dec.{ltb}
-use lib.ListN.{length, take, drop, getD, length-append}
+use lib.ListN.{length, getD, length-append}
 use borrow.Author.Tests.{lt-ltb, le-ltb, ltb-true, ltb-false}
 use Rattle.text.specs.Text.{digit, decimalUpTo, decimal, hex}
-use Rattle.text.specs.Claims.{DecimalRule, digitOf, numberOf, octetsOf, DecimalReadsBack, DecimalIsShort, NoZeroInFront, TwoAnOctet, AreOctets, HexReadsBack}
+use Rattle.text.specs.Claims.{DecimalRule, digitOf, numberOf, octetsOf, DecimalReadsBack, DecimalIsShort, NoZeroInFront, TwoAnOctet, HexReadsBack}
 
 -- ---- the rule of decimal digits
 

@@ -9,9 +9,9 @@ use borrow.Author.Tests.{eqb-true, ne-eqb}
 use Rattle.octets.proofs.BoolLaws.{and-left, and-right}
 use Rattle.octets.specs.Compare.{sameOctets}
 use Rattle.octets.specs.Count.{Octets, Counts}
-use Rattle.addresses.specs.Addresses.{Family, four, six, Addresses, nothing, including, excluding}
+use Rattle.addresses.specs.Addresses.{Family, four, six, Addresses, nothing, excluding}
 use Rattle.octets.proofs.CountLaws.{same-no, same-dec, counts-le, counts-none, one, counts-mark}
-use Rattle.update.specs.Rules.{Host, Zone, there, GoodHost, isFamily, with, Update, Policy, keepOthers, oneOfFamily, onlyThis, heldBy, empty, withAddress, withoutAddress, newHost, left, fits}
+use Rattle.update.specs.Rules.{Host, Zone, there, GoodHost, isFamily, with, Update, Policy, keepOthers, oneOfFamily, onlyThis, heldBy, empty, withoutAddress, newHost, left, fits}
 use Rattle.update.proofs.ZoneLaws.{Named, owner-eq, address, address-own, new-own, good-add, good-new}
 
 -- ---- a name held without an address

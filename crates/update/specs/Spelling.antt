@@ -1,15 +1,13 @@
 -- How the names of a zone are spelled. Document 02, a).
-use mathlib.Core.Path.{_≡_}
 use mathlib.Core.Bool.{cond}
 use mathlib.Core.Option.{Option, none, some}
 use Rattle.octets.specs.Count.{Octets}
-use Rattle.dname.specs.Name.{nameOf, key}
+use Rattle.dname.specs.Name.{nameOf}
 use Rattle.zone.specs.declared.entry.Entry.{Entry}
 use Rattle.zone.specs.declared.Zone.{Zone}
 use Rattle.zone.specs.Meaning.{withKey}
 use Rattle.update.specs.Rules as rules
-use Rattle.update.specs.Rules.{there, Policy, Update, Outcome, success, requestA, requestB, removeAddress, removeName}
-use Rattle.update.specs.Meaning.{zoneOf}
+use Rattle.update.specs.Rules.{there}
 
 -- The octets of the name that has a key, as they stand; none where no name has it.
 abbrev pub Spelling : Type 0

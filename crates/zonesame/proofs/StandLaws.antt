@@ -15,7 +15,7 @@ use Rattle.octets.proofs.BoolLaws.{and-both, and-left, and-right}
 use Rattle.octets.proofs.CompareLaws.{same-self, same-true}
 use Rattle.octets.specs.Compare.{sameOctets}
 use Rattle.octets.specs.Count.{Octets, member, distinct}
-use Rattle.dname.specs.Name.{key, nameOf}
+use Rattle.dname.specs.Name.{nameOf}
 use Rattle.zone.specs.declared.entry.Entry.{Entry}
 use Rattle.zone.specs.Meaning.{used, keyOf, keys, withKey, inOrder, allInOrder, formed}
 use Rattle.zone.specs.Survey.{recordsOf, named, placeFrom}

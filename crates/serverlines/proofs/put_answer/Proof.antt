@@ -1,6 +1,5 @@
 use borrow.Author.Needs.{needs}
 use mathlib.Core.Path.{refl, sym}
-use native.Mathlib.Omega.{arith}
 use lib.Seq.{length-take-le}
 use Rattle.serverlines.proofs.LineLaws.{front}
 use Rattle.serverlines.proofs.put_answer.Statement.{statement}

@@ -1,5 +1,4 @@
 use borrow.Author.Needs.{needs}
-use native.Mathlib.Omega.{arith}
 use Rattle.octets.proofs.WriteLaws.{written, more, then}
 use Rattle.text.specs.Text.{ascii}
 use Rattle.serverlines.specs.Lines.{serverLine}

@@ -1,9 +1,4 @@
-use mathlib.Core.List.{[]}
-use mathlib.Core.Path.{ap}
-use lib.ListN.{replicate}
 use Rattle.serverlist.specs.Servers.{packed}
-use Rattle.serverlist.specs.declared.Server.{Server}
-use Rattle.serverlist.specs.declared.ServerList.{ServerList}
 use borrow.Author.Needs.{needs}
 use Rattle.serverlist.proofs.empty.Statement.{statement}
 use Rattle.serverlist.proofs.empty.Tie as tie

@@ -1,6 +1,4 @@
 use mathlib.Core.Path.{_∙_, subst}
-use mathlib.Core.List.{List}
-use Prim.Native.Nat.{ℕ}
 use borrow.Author.Tests.{eq-eqb, ne-eqb}
 use Rattle.leasepacket.specs.Places.{ReadAs}
 use Rattle.leasepacket.proofs.ReadingLaws.{refuses-4, passed-4, type-absent, type-of-many, type-inside, type-is-octet}

@@ -3,7 +3,6 @@ use mathlib.Core.Path.{_≡_, sym, _∙_, refl, ap}
 use mathlib.Core.Bool.{true}
 use mathlib.Core.List.{List, foldl}
 use native.Mathlib.Omega.{arith}
-use borrow.Author.Needs.{needs}
 use lib.ListN.{length, take, drop, getD}
 use Rattle.serverlist.specs.Servers.{held}
 use Rattle.serverlist.specs.Places.{InPlaces}
