@@ -1,14 +1,14 @@
 -- The laws of fingerprints: equal names have equal ones. Assumes nothing.
 use mathlib.Core.Path.{_≡_, refl, sym, _∙_, ap}
-use mathlib.Core.Bool.{Bool, true, false, not, _&&_, _||_, or-false, true≢false}
+use mathlib.Core.Bool.{Bool, true, false, cond, not, _&&_, _||_, or-false, true≢false}
 use mathlib.Core.List.{List, [], _∷_, map}
 use Prim.Native.Nat.{ℕ, zero, suc, _+_, _-_, _/_, _≤_, _<_}
 use native.Mathlib.Numerals.{add-one}
 use native.Mathlib.Omega.{arith}
-use lib.Dec.{eqb}
+use lib.Dec.{eqb, ltb}
 use lib.ListN.{length, getD, set, take, drop, drop-of-length-le, length-set}
 use lib.Seq.{drop-cons, length-take-le, getD-set-same, getD-set-other}
-use borrow.Author.Tests.{eqb-true, eqb-false, lt-ltb, le-ltb}
+use borrow.Author.Tests.{eqb-true, eqb-false, lt-ltb, le-ltb, ltb-false}
 use borrow.Table.Steps.{cases}
 use Rattle.octets.specs.Compare.{sameOctets}
 use Rattle.octets.specs.Word.{caseless}
@@ -17,7 +17,7 @@ use Rattle.octets.proofs.CompareLaws.{same-differ}
 use Rattle.dname.specs.Name.{lower, key, sameName}
 use Rattle.dname.proofs.KeyLaws.{Octet, below, capital, above, octet, key-length, key-at}
 use Rattle.octets.specs.Count.{Octets, member, distinct}
-use Rattle.zone.specs.Survey.{folded, caselessAt, wordAt, endsOf, wrapped, fingerprintFrom, fingerprintWords, fingerprintOf, among, markOf, repeated}
+use Rattle.zone.specs.Survey.{folded, caselessAt, wordAt, endsOf, wrapped, fewWords, fingerprintFrom, fingerprintWords, fingerprintOf, among, markOf, repeated}
 
 pub prefix-length : {A : Type 0} (l : List A) (n : ℕ) → n ≤ length l → n ≡ length (take n l)
 prefix-length l n h = sym (length-take-le n l h)
@@ -51,7 +51,7 @@ from-key (suc n) i p q s = rw (word-key s i) (from-key n (i + 8) (wrapped (p + w
 -- the one place where a fingerprint of octets is one of the key
 pub fingerprint-key : (name : Octets) → fingerprintWords name ≡ fingerprintOf name
 unfolding fingerprintWords
-fingerprint-key name = rw (key-length name, ends-key name, from-key ((length name - 1) / 8) 0 0 0 name) refl
+fingerprint-key name = rw (key-length name, ends-key name, from-key (fewWords ((length name - 1) / 8)) 0 0 0 name) refl
 
 -- names with different fingerprints are different
 pub fingerprint-differ : (a b : Octets) → (fingerprintOf a ≡ fingerprintOf b → ⊥) → sameName a b ≡ false
@@ -72,9 +72,18 @@ pub fingerprint-short : (s : List ℕ) → 4 ≤ length s → length s < 8 → f
 unfolding fingerprintWords
 fingerprint-short s l h = rw (lt-ltb (length s) 8 h, le-ltb (length s) 4 l)
 
-pub fingerprint-long : (s : List ℕ) → 8 ≤ length s → fingerprintWords s ≡ fingerprintFrom ((length s - 1) / 8) 0 0 0 s
+pub fingerprint-long : (s : List ℕ) → 8 ≤ length s → fingerprintWords s ≡ fingerprintFrom (fewWords ((length s - 1) / 8)) 0 0 0 s
 unfolding fingerprintWords
 fingerprint-long s h = rw (le-ltb (length s) 8 h)
+
+-- no more words than there are
+pub few-words : (n : ℕ) → fewWords n ≤ n
+unfolding fewWords
+few-words n = go (ltb n 15) refl
+  where
+    go : (b : Bool) → ltb n 15 ≡ b → cond b n 15 ≤ n
+    go true e = omega arith
+    go false e = ltb-false n 15 e
 
 pub fingerprint-step : (n left i p q : ℕ) (s : List ℕ) → n ≡ suc left → fingerprintFrom n i p q s ≡ fingerprintFrom left (i + 8) (more s i p) (wrapped (q + more s i p)) s
 unfolding fingerprintFrom

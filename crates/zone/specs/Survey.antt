@@ -33,6 +33,10 @@ wordAt s i = value (caselessAt s i ∷ caselessAt s (i + 1) ∷ caselessAt s (i 
 abbrev pub wrapped : ℕ → ℕ
 wrapped x = x % 2 ^ 64
 
+-- of a long name the first words count, so that it takes no longer than one of 128 octets
+unfoldable pub fewWords : ℕ → ℕ
+fewWords n = cond (ltb n 15) n 15
+
 -- n words one behind the other from a place on, and the last eight octets: their sum, and the sum of its running sums
 unfoldable pub fingerprintFrom : ℕ → ℕ → ℕ → ℕ → List ℕ → ℕ
 fingerprintFrom zero i sum sums s = folded (wrapped (sums + wrapped (sum + wordAt s (length s - 8))))
@@ -44,7 +48,7 @@ endsOf s = value (caselessAt s 0 ∷ caselessAt s 1 ∷ caselessAt s 2 ∷ casel
 
 -- fewer than four octets, names of one label of one octet, have none of their own
 unfoldable pub fingerprintWords : Octets → ℕ
-fingerprintWords s = cond (ltb (length s) 8) (cond (ltb (length s) 4) 0 (folded (endsOf s))) (fingerprintFrom ((length s - 1) / 8) 0 0 0 s)
+fingerprintWords s = cond (ltb (length s) 8) (cond (ltb (length s) 4) 0 (folded (endsOf s))) (fingerprintFrom (fewWords ((length s - 1) / 8)) 0 0 0 s)
 
 abbrev pub fingerprintOf : Octets → ℕ
 fingerprintOf name = fingerprintWords (key name)

@@ -1,4 +1,5 @@
 // Fingerprints of names: where two differ, the names do. Numbers are quicker to compare than names.
+use crate::survey;
 use octets::word;
 ghost use mathlib.Core.Path.{_≡_};
 ghost use Prim.Native.Nat.{_<_, _≤_, _+_};
@@ -64,8 +65,12 @@ fn of_short(s: &[u8]) -> u32
     fold(ends(s))
 }
 
+// The most words that are summed up beside the last one.
+const MOST_WORDS: usize = 15;
+
 // Words of eight octets are summed up, and their running sums in turn, so that it matters where a word
-// stands. The last word ends where the octets do, and may share some with the one before it.
+// stands. The last word ends where the octets do, and may share some with the one before it. Of a name
+// of more than 128 octets the first 120 and the last eight count.
 pub fn fingerprint(s: &[u8]) -> u32
     ensures { λ r. ⌜ r ≡ fingerprintWords (now (s .entry)) ⌝ }
 {
@@ -75,7 +80,8 @@ pub fn fingerprint(s: &[u8]) -> u32
     let mut sum: u64 = 0;
     let mut sums: u64 = 0;
     let mut i: usize = 0;
-    let mut left = (s.len() - 1) / 8;
+    let words = (s.len() - 1) / 8;
+    let mut left = survey::choose(words < MOST_WORDS, words, MOST_WORDS);
     while left > 0 {
         let w = word(s, i);
         sum = std::num::wrapping_add_u64(sum, w);

@@ -12,7 +12,9 @@ use borrow.Author.Tests.{eq-eqb, ltb-true, lt-ltb}
 use borrow.Table.Steps.{cases}
 use Rattle.octets.specs.Compare.{sameOctets}
 use Rattle.octets.specs.Count.{Octets}
+use Rattle.octets.proofs.BoolLaws.{and-both, and-left, and-right}
 use Rattle.dname.specs.Name.{key, sameName, nameOf}
+use Rattle.dname.proofs.KeyLaws.{same-octets-name}
 use Rattle.zone.specs.declared.entry.Entry.{Entry}
 use Rattle.zone.specs.Meaning.{used, keyOf}
 use Rattle.zone.specs.Survey.{fingerprintWords, named, placeFrom}
@@ -24,7 +26,7 @@ use Rattle.lentzone.proofs.DecodeLaws as decode
 use Rattle.lentzone.proofs.FormLaws.{zone-octets, zone-form}
 use Rattle.lentzone.proofs.PlaceLaws.{row-there, place-at}
 use Rattle.request.proofs.PlaceLaws.{Alone, None, alone-found, here-at, here-none, formed-names}
-use Rattle.zonesame.specs.Inner.{Fingerprints}
+use Rattle.zonesame.specs.Inner.{Fingerprints, spelledSo}
 
 -- ---- the octets of a place
 
@@ -37,6 +39,13 @@ pub row-length : (z : List ℕ) (place : ℕ) → length z ≡ 23936 → place <
 row-length z place l h =
     let d : length (drop (place * 374) z) ≡ length z - place * 374 = length-drop (place * 374) z in
     ap length (sym (row-there z place l h)) ∙ length-take-le 374 (drop (place * 374) z) (omega arith)
+
+-- a name of these very octets is that name
+pub spelled-named : (n : Octets) (e : Entry) → spelledSo n e ≡ true → named n e ≡ true
+unfolding spelledSo named
+spelled-named n e h =
+    let s = sameOctets (nameOf (e .name)) n in
+    and-both (used e) (sameName (nameOf (e .name)) n) (and-left (used e) s h) (same-octets-name (nameOf (e .name)) n (and-right (used e) s h))
 
 -- ---- one place only
 

@@ -28,6 +28,12 @@ pub record Fingerprints (z f : List ℕ) (n : ℕ) : Type 0 where
   pub size : length f ≡ 64
   pub each : (place : ℕ) → place < n → used (entryIn (rowAt z place)) ≡ true → getD f place 0 ≡ fingerprintWords (nameOf (nameAt z place))
 
+-- ---- one place
+
+-- a name of these very octets stands there
+unfoldable pub spelledSo : Octets → Entry → Bool
+spelledSo n e = used e && sameOctets (nameOf (e .name)) n
+
 -- ---- what stands at two names
 
 unfoldable pub sameOwner : Records → Records → Bool

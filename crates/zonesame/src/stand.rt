@@ -4,7 +4,7 @@ use crate::search;
 use lentzone::layout::NAME;
 use lentzone::layout::NAME_LENGTH;
 use lentzone::layout::PLACE_SIZE;
-use lentzone::named;
+use octets::compare;
 ghost use mathlib.Core.Path.{_≡_};
 ghost use mathlib.Core.Bool.{true};
 ghost use Prim.Native.Nat.{_<_};
@@ -12,7 +12,20 @@ ghost use lib.ListN.{length};
 ghost use Rattle.dname.specs.Name.{nameOf};
 ghost use Rattle.lentzone.specs.Decode.{entryIn, zoneIn, isZone};
 ghost use Rattle.lentzone.specs.Inner.{placeIn, rowAt};
-ghost use Rattle.zonesame.specs.Inner.{Fingerprints, standsIn, allStand};
+ghost use Rattle.zonesame.specs.Inner.{Fingerprints, spelledSo, standsIn, allStand};
+
+// Whether a name of these very octets stands in the 374 octets of a place. That is quicker to tell than
+// whether two names are equal, and most names of two zones that are compared are spelled alike.
+fn is_spelled(e: &[u8], n: &[u8]) -> bool
+    requires { ⌜ length (now e) ≡ 374 ⌝ }
+    ensures { λ r. ⌜ r ≡ spelledSo (now (n .entry)) (entryIn (now (e .entry))) ⌝ }
+{
+    if e[0] == 0 {
+        return false;
+    }
+    let end = NAME + (e[NAME_LENGTH] as usize);
+    compare::same(&e[NAME..end], n)
+}
 
 // The place in a zone of the name that stands in the 374 octets of another zone's place. It is looked
 // for at the place of that number first: no name stands in a zone twice.
@@ -22,7 +35,9 @@ fn place_for(z: &[u8], fingerprints: &[u32], e: &[u8], place: usize) -> usize
 {
     let end = NAME + (e[NAME_LENGTH] as usize);
     let n = &e[NAME..end];
-    if named::is_at(z, n, place) {
+    let at = place * PLACE_SIZE;
+    let behind = at + PLACE_SIZE;
+    if is_spelled(&z[at..behind], n) {
         return place;
     }
     search::place_of(z, fingerprints, n)

@@ -1,18 +1,18 @@
 use borrow.Author.Needs.{needs}
 use mathlib.Core.Path.{_≡_, sym, _∙_, ap}
-use Prim.Native.Nat.{ℕ, _+_, _*_, _-_, _<_}
+use Prim.Native.Nat.{ℕ, _+_, _*_, _-_, _/_, _<_}
 use native.Mathlib.Omega.{arith}
 use lib.ListN.{length}
-use Rattle.zone.specs.Survey.{folded, wrapped, fingerprintFrom, fingerprintWords}
-use Rattle.zone.proofs.FingerprintLaws.{more, fingerprint-long, fingerprint-step, fingerprint-end}
+use Rattle.zone.specs.Survey.{folded, wrapped, fewWords, fingerprintFrom, fingerprintWords}
+use Rattle.zone.proofs.FingerprintLaws.{more, few-words, fingerprint-long, fingerprint-step, fingerprint-end}
 use Rattle.zone.proofs.fingerprint.fingerprint.Statement.{statement}
 use Rattle.zone.proofs.fingerprint.fingerprint.Tie as tie
 
 abbrev Inv-loop : tie.InvT-loop
-Inv-loop s sum₀ sums₀ i₀ left₀ sum sums i left = (i + 8 * left < length s) × (fingerprintWords s ≡ fingerprintFrom left i sum sums s)
+Inv-loop s sum₀ sums₀ i₀ words left₀ sum sums i left = (i + 8 * left < length s) × (fingerprintWords s ≡ fingerprintFrom left i sum sums s)
 
 abbrev μ-loop : tie.MeasureT-loop
-μ-loop s sum₀ sums₀ i₀ left₀ sum sums i left = left
+μ-loop s sum₀ sums₀ i₀ words left₀ sum sums i left = left
 
 of-short-requires : tie.Need-of-short-requires Inv-loop μ-loop
 of-short-requires c κs = search needs
@@ -20,11 +20,18 @@ of-short-requires c κs = search needs
 returns : tie.Need-returns Inv-loop μ-loop
 returns c = search needs
 
-sub-left : tie.Need-sub-left Inv-loop μ-loop
-sub-left c = omega arith
+sub-words : tie.Need-sub-words Inv-loop μ-loop
+sub-words c = omega arith
+
+choose-requires : tie.Need-choose-requires Inv-loop μ-loop
+choose-requires c κs = search needs
 
 loop-holds : tie.Need-loop-holds Inv-loop μ-loop
-loop-holds c = (omega arith, fingerprint-long _ (omega arith))
+loop-holds c =
+    let s = c .before .before .before .args .s .now in
+    let e : c .choose .result ≡ fewWords ((length s - 1) / 8) = unfold fewWords in c .choose .ensures in
+    let f = few-words ((length s - 1) / 8) in
+    (omega arith, fingerprint-long s (omega arith) ∙ ap (λ (n : ℕ). fingerprintFrom n 0 0 0 s) (sym e))
 
 word-requires : tie.Need-word-requires Inv-loop μ-loop
 word-requires c κs = omega arith
@@ -38,15 +45,15 @@ wrapping-add-u64-requires-2 c κs = search needs
 add-i : tie.Need-add-i Inv-loop μ-loop
 add-i c = omega arith
 
-sub-left-2 : tie.Need-sub-left-2 Inv-loop μ-loop
-sub-left-2 c = omega arith
+sub-left : tie.Need-sub-left Inv-loop μ-loop
+sub-left c = omega arith
 
 loop-less : tie.Need-loop-less Inv-loop μ-loop
 loop-less c = omega arith
 
 loop-again : tie.Need-loop-again Inv-loop μ-loop
 loop-again c =
-    let s = c .before .before .before .before .before .before .before .args .s .now in
+    let s = c .before .before .before .before .before .before .before .before .args .s .now in
     let l = c .before .before .before .before .loop in
     let w = c .before .before .word .ensures in
     let p : c .before .wrapping-add-u64 .result ≡ more s (l .i) (l .sum) = c .before .wrapping-add-u64 .ensures ∙ ap (λ (y : ℕ). wrapped (l .sum + y)) w in
@@ -74,7 +81,7 @@ fold-requires c κs = search needs
 
 returns-2 : tie.Need-returns-2 Inv-loop μ-loop
 returns-2 c =
-    let s = c .before .before .before .before .before .before .before .before .args .s .now in
+    let s = c .before .before .before .before .before .before .before .before .before .args .s .now in
     let l = c .before .before .before .before .before .loop in
     let w = c .before .before .before .word2 .ensures in
     let p : c .before .before .wrapping-add-u643 .result ≡ more s (length s - 8) (l .sum) = c .before .before .wrapping-add-u643 .ensures ∙ ap (λ (y : ℕ). wrapped (l .sum + y)) w in
@@ -89,13 +96,14 @@ fingerprint-spec =
     μ-loop
     of-short-requires
     returns
-    sub-left
+    sub-words
+    choose-requires
     loop-holds
     word-requires
     wrapping-add-u64-requires
     wrapping-add-u64-requires-2
     add-i
-    sub-left-2
+    sub-left
     loop-less
     loop-again
     sub-word
