@@ -1,5 +1,5 @@
 //! Times the product's calls beside the second program's, on the same inputs
-//! in the same run: `tools/bench`.
+//! in the same run: `tools/bench [PASSES]`.
 
 #[path = "../../tests/common/mod.rs"]
 mod common;
@@ -15,9 +15,20 @@ mod timer;
 mod zone;
 mod zones;
 
-fn main() {
+/// How often the table is gone through: as often as the argument says.
+fn passes() -> Result<usize, String> {
+    match std::env::args().nth(1) {
+        None => Ok(timer::PASSES),
+        Some(word) => match word.parse() {
+            Ok(passes) if passes > 0 => Ok(passes),
+            _ => Err(format!("bench: no number of passes: {word}")),
+        },
+    }
+}
+
+fn main() -> Result<(), String> {
     let mut table = timer::Table::default();
-    for _ in 0..timer::PASSES {
+    for _ in 0..passes()? {
         name_option::run(&mut table);
         server_list::run(&mut table);
         lease_query::run(&mut table);
@@ -27,4 +38,5 @@ fn main() {
         lookup::run(&mut table);
     }
     table.print();
+    Ok(())
 }

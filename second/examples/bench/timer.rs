@@ -3,8 +3,8 @@
 use std::hint::black_box;
 use std::time::{Duration, Instant};
 
-/// Times that the whole table is gone through, so that a row's rounds are
-/// spread over the run.
+/// Times that the whole table is gone through unless it is said otherwise, so
+/// that a row's rounds are spread over the run.
 pub const PASSES: usize = 15;
 /// Rounds of each program in a pass.
 const ROUNDS: usize = 11;
