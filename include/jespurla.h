@@ -50,7 +50,7 @@ extern "C" {
  * library may have to change.
  */
 #define JESPURLA_VERSION_MAJOR 0
-#define JESPURLA_VERSION_MINOR 3
+#define JESPURLA_VERSION_MINOR 4
 #define JESPURLA_VERSION_PATCH 0
 #define JESPURLA_VERSION \
     (JESPURLA_VERSION_MAJOR * 65536 + JESPURLA_VERSION_MINOR * 256 + JESPURLA_VERSION_PATCH)
@@ -83,24 +83,25 @@ static inline const char *jespurla_refusal_text(uint32_t refusal)
 }
 
 /* Limits, in octets where nothing else is said. */
-#define JESPURLA_NAME_MAX 255            /* a full name */
-#define JESPURLA_LABEL_MAX 63            /* a label of it */
-#define JESPURLA_NAME_REPLY_MIN 256      /* the buffer for the answer to a name option */
-#define JESPURLA_AREA_MAX 1500           /* a router's option area */
-#define JESPURLA_SERVERS_MAX 8           /* servers in the list */
-#define JESPURLA_OPTION_SERVERS_MAX 3    /* addresses of one option that count */
-#define JESPURLA_PACKET_MIN 240          /* a lease query, at the least */
-#define JESPURLA_PACKET_MAX 1500         /* a lease query, at the most */
-#define JESPURLA_LEASE_REPLY_MIN 648     /* the buffer for a lease reply; no reply is longer */
-#define JESPURLA_LEASES_MAX 256          /* records in the lease table */
-#define JESPURLA_HARDWARE_MAX 16         /* a hardware address */
-#define JESPURLA_CLIENT_ID_MAX 64        /* a client id in the lease table */
-#define JESPURLA_RELAY_MAX 64            /* relay agent information in the lease table */
-#define JESPURLA_REPLY_ADDRESSES_MAX 63  /* addresses in option 92 of a reply */
-#define JESPURLA_DHCID_LENGTH 35         /* a DHCID */
-#define JESPURLA_NAMES_MAX 64            /* names in a zone */
-#define JESPURLA_NAME_ADDRESSES_MAX 4    /* addresses that a name has of each family */
-#define JESPURLA_REQUESTS_MAX 6          /* requests that an add sends */
+#define JESPURLA_NAME_MAX 255              /* a full name */
+#define JESPURLA_LABEL_MAX 63              /* a label of it */
+#define JESPURLA_NAME_REPLY_MIN 256        /* the buffer for the answer to a name option */
+#define JESPURLA_AREA_MAX 1500             /* a router's option area */
+#define JESPURLA_ROUTER_LIFETIME_MAX 65535 /* a router's lifetime, in seconds */
+#define JESPURLA_SERVERS_MAX 8             /* servers in the list */
+#define JESPURLA_OPTION_SERVERS_MAX 3      /* addresses of one option that count */
+#define JESPURLA_PACKET_MIN 240            /* a lease query, at the least */
+#define JESPURLA_PACKET_MAX 1500           /* a lease query, at the most */
+#define JESPURLA_LEASE_REPLY_MIN 648       /* the buffer for a lease reply; no reply is longer */
+#define JESPURLA_LEASES_MAX 256            /* records in the lease table */
+#define JESPURLA_HARDWARE_MAX 16           /* a hardware address */
+#define JESPURLA_CLIENT_ID_MAX 64          /* a client id in the lease table */
+#define JESPURLA_RELAY_MAX 64              /* relay agent information in the lease table */
+#define JESPURLA_REPLY_ADDRESSES_MAX 63    /* addresses in option 92 of a reply */
+#define JESPURLA_DHCID_LENGTH 35           /* a DHCID */
+#define JESPURLA_NAMES_MAX 64              /* names in a zone */
+#define JESPURLA_NAME_ADDRESSES_MAX 4      /* addresses that a name has of each family */
+#define JESPURLA_REQUESTS_MAX 6            /* requests that an add sends */
 
 /*
  * A moment on the clock, in seconds: 0 to JESPURLA_LATEST. Where it is an expiry it may also be
@@ -114,6 +115,11 @@ typedef struct {
 
 #define JESPURLA_LATEST UINT64_C(0xffffffffffff)
 #define JESPURLA_NEVER UINT64_MAX
+
+/* A span of seconds: how long, where a moment says when. No call takes one for the other. */
+typedef struct {
+    uint32_t seconds;
+} jespurla_span;
 
 /* ---- The DHCPv6 name option (RFC 4704) */
 
@@ -171,10 +177,15 @@ jespurla_name_answer jespurla_name_option_answer(const uint8_t *value, size_t va
 
 /* ---- The DNS servers that routers announce (RFC 5006) */
 
-/* A server: an IPv6 address, and the last moment at which it is still in use. */
+/*
+ * A server: an IPv6 address, the expiry that the option which last named it gave it, and the router
+ * moment, up to which the router that sent this option said that it would be there. It is in use up
+ * to the earlier of the two, that moment included.
+ */
 typedef struct {
     uint8_t address[16];
-    jespurla_moment expiry;
+    jespurla_moment expiry; /* a moment, or JESPURLA_NEVER */
+    jespurla_moment router; /* a moment: every router's lifetime ends */
 } jespurla_server;
 
 /*
@@ -197,25 +208,40 @@ typedef struct {
  *
  * list: the list as the call before returned it.
  * clock: now.
- * area, area_length: the options of a router advertisement, one behind the other.
+ * router_lifetime: for how long from now the router says that it is there, at most
+ * JESPURLA_ROUTER_LIFETIME_MAX seconds: the Router Lifetime of its advertisement, octets 6 and 7 of
+ * the message. A router that says goodbye sends 0.
+ * area, area_length: the options of the same advertisement, one behind the other.
  *
- * The rule: first every server goes whose expiry is less than the clock: at its expiry a server is
- * still there, a second later it is gone. Then the options act in turn. One acts where its Type is
- * 25 and its Length, in units of 8 octets, is odd and at least 3; of its addresses the first three
- * count, and all have its Lifetime. Other options do nothing. With Lifetime 0 an address is taken
- * off the list, if it is there. With any other an address that is there gets the expiry clock +
- * Lifetime (at most JESPURLA_LATEST, and JESPURLA_NEVER where the Lifetime is all ones) and keeps
- * its place. One that is not there is put in with that expiry: ahead of all servers that this
- * option did not put in, behind those that it did. Where the list has eight already, the one that
- * expires first is dropped to make room (never is last; of several the one furthest back).
+ * The rule: first every server goes for which the earlier of its two moments is less than the
+ * clock: at that moment it is still there, a second later it is gone. Then the options act in turn.
+ * One acts where its Type is 25 and its Length, in units of 8 octets, is odd and at least 3; of its
+ * addresses the first three count, and all have its Lifetime. Other options do nothing. Where the
+ * Lifetime is 0, or the router lifetime, an address is taken off the list, if it is there. With any
+ * others an address that is there gets the expiry clock + Lifetime (at most JESPURLA_LATEST, and
+ * JESPURLA_NEVER where the Lifetime is all ones) and the router moment clock + router_lifetime (at
+ * most JESPURLA_LATEST), and keeps its place. One that is not there, also one that went just before
+ * since it had expired, is put in with these two: ahead of all servers that this option did not put
+ * in, behind those that it did. Where the list has eight already, the one whose earlier moment is
+ * the first is dropped to make room (of several the one furthest back). A server that the area does
+ * not name keeps its moments, whatever the router lifetime is.
+ *
+ * When a server goes: the smaller number of its expiry and its router moment is the last second at
+ * which it is in use. A router that was unplugged says nothing more, so a host also calls with an
+ * empty area, when that second of some server has passed or from time to time: every server goes
+ * whose last second has passed, also one that an option named for good. An empty area names no
+ * server, so there any router lifetime within its limit does, and none changes anything.
+ *
  * Refusals: 31 list with a count over 8, two entries of one address, an expiry that is neither a
- * moment nor never, or a clock above JESPURLA_LATEST; 15 clock above JESPURLA_LATEST or behind the
- * list's; 16 area over JESPURLA_AREA_MAX octets, or with an option of Length 0 or one past the end.
- * The area is tested whole before anything of it is applied. A host that gets 16 drops the
- * advertisement.
+ * moment nor never, a router moment that is no moment, or a clock above JESPURLA_LATEST; 15 clock
+ * above JESPURLA_LATEST or behind the list's; 15 router lifetime above
+ * JESPURLA_ROUTER_LIFETIME_MAX; 16 area over JESPURLA_AREA_MAX octets, or with an option of Length
+ * 0 or one past the end. The area is tested whole before anything of it is applied. A host that
+ * gets 16 drops the advertisement.
  */
 jespurla_server_list_answer jespurla_server_list(jespurla_server_list_state list,
                                                  jespurla_moment clock,
+                                                 jespurla_span router_lifetime,
                                                  const uint8_t *area, size_t area_length);
 
 /* ---- Lease queries (RFC 4388) */

@@ -107,7 +107,9 @@ fn assertion(line: &str) -> Option<String> {
             let of = camel_case(name.trim_start_matches("jespurla_"));
             format!("size_of::<{of}>() == {size} && align_of::<{of}>() == {align}")
         }
+        // Tuple structs, whose one field has a name in C alone.
         ("FIELD", ["jespurla_moment", _, offset]) => format!("offset_of!(Moment, 0) == {offset}"),
+        ("FIELD", ["jespurla_span", _, offset]) => format!("offset_of!(Span, 0) == {offset}"),
         ("FIELD", [name, field, offset]) => {
             let of = camel_case(name.trim_start_matches("jespurla_"));
             format!("offset_of!({of}, {field}) == {offset}")

@@ -33,7 +33,8 @@
 //! |---|---|---|
 //! | [`flag_decision`] | `jespurla_flag_decision` | decides about the flags of a name option |
 //! | [`name_option_answer`] | `jespurla_name_option_answer` | answers a name option |
-//! | [`ServerList::after`], [`advance`](ServerList::advance) | `jespurla_server_list` | applies a router's options to the list of DNS servers |
+//! | [`ServerList::after`], [`advance`](ServerList::advance) | `jespurla_server_list` | applies a router's lifetime and options to the list of DNS servers |
+//! | [`ServerList::expire`] | `jespurla_server_list` | drops the DNS servers that have expired |
 //! | [`lease_query`] | `jespurla_lease_query` | replies to a lease query |
 //! | [`Zone::find`] | `jespurla_zone_find` | tells what stands at a name |
 //! | `==` of [`Zone`]s | `jespurla_zone_same` | tells whether two zones mean the same |
@@ -124,7 +125,7 @@ pub use presentation::ParseNameError;
 pub use raw::{FLAG_N, FLAG_O, FLAG_S};
 pub use refusal::Refusal;
 pub use request::{Answer, Policy};
-pub use server_list::ServerList;
+pub use server_list::{Server, ServerList};
 pub use stage::Stage;
 pub use version::{library_version, Version};
 pub use zone::Zone;

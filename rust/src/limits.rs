@@ -8,6 +8,8 @@ pub const LABEL_MAX: usize = 63;
 pub const NAME_REPLY_MIN: usize = 256;
 /// A router's option area.
 pub const AREA_MAX: usize = 1500;
+/// A router's lifetime, in seconds.
+pub const ROUTER_LIFETIME_MAX: u32 = 65_535;
 /// Servers in the list.
 pub const SERVERS_MAX: usize = 8;
 /// Addresses of one option that count.

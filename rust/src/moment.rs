@@ -37,7 +37,8 @@ impl Moment {
     }
 
     /// The expiry of what is given for a span at this moment: never where the span is endless, and
-    /// the last moment at most. The server list reckons the same way.
+    /// the last moment at most. The server list reckons the same way, with the Lifetime of an option
+    /// and with that of a router.
     pub fn after(self, span: Span) -> Expiry {
         if span == Span::ENDLESS {
             return Expiry::Never;
@@ -117,8 +118,21 @@ impl fmt::Display for Expiry {
     }
 }
 
-/// A span of seconds, as packets carry it: the lifetime of a server, and options 51 and 91 of a
-/// lease reply. It is no moment, and nothing takes one for the other.
+/// A span of seconds, as packets carry it: the lifetimes of a server and of a router, and options 51
+/// and 91 of a lease reply. It is no moment, and nothing takes one for the other.
+///
+/// ```
+/// use jespurla::{Expiry, Moment, Refusal, Span};
+///
+/// let now = Moment::try_from(100)?;
+/// assert_eq!(now.after(Span(60)), Expiry::At(Moment::try_from(160)?));
+/// assert_eq!(now.after(Span::ENDLESS), Expiry::Never);
+///
+/// // The Router Lifetime of an advertisement has two octets.
+/// let router_lifetime = Span(u16::from_be_bytes([7, 8]).into());
+/// assert_eq!(router_lifetime, Span(1_800));
+/// # Ok::<(), Refusal>(())
+/// ```
 #[derive(Clone, Copy, PartialEq, Eq, PartialOrd, Ord, Hash, Debug, Default)]
 pub struct Span(pub u32);
 
@@ -134,5 +148,27 @@ impl Span {
     /// The span in four octets of a packet.
     pub const fn from_octets(octets: [u8; 4]) -> Span {
         Span(u32::from_be_bytes(octets))
+    }
+
+    pub(crate) fn to_raw(self) -> raw::Span {
+        raw::Span(self.0)
+    }
+}
+
+impl From<u32> for Span {
+    fn from(seconds: u32) -> Span {
+        Span(seconds)
+    }
+}
+
+impl From<Span> for u32 {
+    fn from(span: Span) -> u32 {
+        span.0
+    }
+}
+
+impl fmt::Display for Span {
+    fn fmt(&self, to: &mut fmt::Formatter) -> fmt::Result {
+        self.0.fmt(to)
     }
 }

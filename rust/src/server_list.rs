@@ -4,29 +4,99 @@ use core::fmt;
 use core::net::Ipv6Addr;
 
 use crate::limits::SERVERS_MAX;
-use crate::{raw, Expiry, Moment, Refusal};
+use crate::{raw, Expiry, Moment, Refusal, Span};
+
+/// A DNS server of the list. It is in use [`until`](Server::until) the earlier of its two moments.
+#[derive(Clone, Copy, PartialEq, Eq, Hash, Debug)]
+pub struct Server {
+    /// Its address.
+    pub address: Ipv6Addr,
+    /// When it expires by the option that last named it.
+    pub expiry: Expiry,
+    /// Up to when the router that sent this option said that it would be there.
+    pub router: Moment,
+}
+
+impl Server {
+    /// The last moment at which it is in use: the earlier one of its expiry and its router's
+    /// moment. A second later it is gone, unless a router has named it again.
+    pub fn until(&self) -> Moment {
+        match self.expiry {
+            Expiry::At(moment) => moment.min(self.router),
+            Expiry::Never => self.router,
+        }
+    }
+
+    fn to_raw(self) -> raw::Server {
+        raw::Server {
+            address: self.address.octets(),
+            expiry: self.expiry.to_raw(),
+            router: self.router.to_raw(),
+        }
+    }
+
+    /// The server of a list that is known to keep its form.
+    fn from_raw(server: &raw::Server) -> Server {
+        Server {
+            address: server.address.into(),
+            expiry: Expiry::from_raw(server.expiry),
+            router: Moment::from_raw(server.router),
+        }
+    }
+}
 
 /// The DNS servers that routers have announced (RFC 5006), the preferred one first, and the last
 /// accepted clock.
 ///
 /// ```
-/// use jespurla::{Expiry, Moment, Refusal, ServerList};
+/// use jespurla::{Moment, Refusal, ServerList, Span};
 ///
 /// // An option for one server, with the Lifetime 60.
 /// let mut area = [0; 24];
 /// (area[0], area[1], area[7]) = (25, 3, 60);
 /// area[8..].copy_from_slice(&[0x20, 1, 0x0d, 0xb8, 0, 0, 0, 0, 0, 0, 0, 0, 0, 0, 0, 1]);
 ///
+/// // A router that will be there for half an hour announces it.
 /// let mut servers = ServerList::new();
-/// servers.advance(Moment::try_from(100)?, &area)?;
-/// let (address, expiry) = servers.iter().next().expect("one server");
-/// assert_eq!(address.to_string(), "2001:db8::1");
-/// assert_eq!(expiry, Expiry::At(Moment::try_from(160)?));
+/// servers.advance(Moment::try_from(100)?, Span(1_800), &area)?;
+/// let server = servers.iter().next().expect("one server");
+/// assert_eq!(server.address.to_string(), "2001:db8::1");
+/// assert_eq!(server.until(), Moment::try_from(160)?);
 ///
-/// // At its expiry a server is still there; a second later it is gone.
-/// servers.advance(Moment::try_from(160)?, &[])?;
+/// // At that moment a server is still there; a second later it is gone.
+/// servers.expire(Moment::try_from(160)?)?;
 /// assert_eq!(servers.len(), 1);
-/// servers.advance(Moment::try_from(161)?, &[])?;
+/// servers.expire(Moment::try_from(161)?)?;
+/// assert!(servers.is_empty());
+/// # Ok::<(), Refusal>(())
+/// ```
+///
+/// A server goes with its router. One router says goodbye, another is unplugged:
+///
+/// ```
+/// use jespurla::{Expiry, Moment, Refusal, ServerList, Span};
+///
+/// // An option for the server of this number, for good.
+/// let for_good = |number: u8| {
+///     let mut area = [0; 24];
+///     (area[0], area[1], area[23]) = (25, 3, number);
+///     area[4..8].fill(255);
+///     area
+/// };
+/// let mut servers = ServerList::new();
+/// servers.advance(Moment::try_from(100)?, Span(1_800), &for_good(1))?;
+/// servers.advance(Moment::try_from(100)?, Span(9_000), &for_good(2))?;
+///
+/// // The second router says goodbye: its server goes at once, that of the first stays.
+/// servers.advance(Moment::try_from(200)?, Span(0), &for_good(2))?;
+/// let left = servers.iter().next().expect("the server of the first router");
+/// assert_eq!((servers.len(), left.address), (1, [0, 0, 0, 0, 0, 0, 0, 1].into()));
+///
+/// // The first one is unplugged and says nothing: its server goes when its lifetime is over.
+/// assert_eq!((left.expiry, left.until()), (Expiry::Never, Moment::try_from(1_900)?));
+/// servers.expire(Moment::try_from(1_900)?)?;
+/// assert_eq!(servers.len(), 1);
+/// servers.expire(Moment::try_from(1_901)?)?;
 /// assert!(servers.is_empty());
 /// # Ok::<(), Refusal>(())
 /// ```
@@ -45,42 +115,50 @@ impl ServerList {
     /// # Errors
     ///
     /// [`Refusal::ServerList`] where there are over eight, or two of one address.
-    pub fn from_servers(
-        clock: Moment,
-        servers: &[(Ipv6Addr, Expiry)],
-    ) -> Result<ServerList, Refusal> {
+    pub fn from_servers(clock: Moment, servers: &[Server]) -> Result<ServerList, Refusal> {
         if servers.len() > SERVERS_MAX {
             return Err(Refusal::ServerList);
         }
-        let mut list = raw::ServerListState::EMPTY;
-        (list.count, list.clock) = (servers.len(), clock.to_raw());
-        for (entry, (address, expiry)) in list.entries.iter_mut().zip(servers) {
-            (entry.address, entry.expiry) = (address.octets(), expiry.to_raw());
+        let mut list = ServerList::new();
+        (list.0.count, list.0.clock) = (servers.len(), clock.to_raw());
+        for (entry, server) in list.0.entries.iter_mut().zip(servers) {
+            *entry = server.to_raw();
         }
-        ServerList(list).after(clock, &[])
+        list.expire(clock)?;
+        Ok(list)
     }
 
-    /// The list after a router's option area has come in. An empty area only drops what has
-    /// expired.
+    /// The list after a router's option area has come in.
     ///
-    /// `clock` is now, and `area` has the options of a router advertisement, one behind the other.
+    /// `clock` is now; `router_lifetime` is for how long from now the router says that it is there,
+    /// the Router Lifetime of its advertisement; `area` has the options of the same advertisement,
+    /// one behind the other.
     ///
-    /// First every server goes whose expiry is less than the clock. Then the options act in turn.
-    /// One acts where its Type is 25 and its Length is odd and at least 3; of its addresses the
-    /// first three count. With Lifetime 0 an address is taken off the list. With any other an
-    /// address that is there gets the expiry [`clock.after(lifetime)`](Moment::after) and keeps its
-    /// place. One that is not there is put ahead of all servers that this option did not put in,
-    /// behind those that it did; where the list has eight, the one that expires first is dropped to
-    /// make room, of several the one furthest back.
+    /// First every server goes for which the earlier of its two moments, [`Server::until`], is less
+    /// than the clock. Then the options act in turn. One acts where its Type is 25 and its Length is
+    /// odd and at least 3; of its addresses the first three count. Where the option's Lifetime is 0,
+    /// or the router lifetime, an address is taken off the list. With any others an address that is
+    /// there gets the expiry [`clock.after(lifetime)`](Moment::after) and the router's moment
+    /// `clock.after(router_lifetime)`, and keeps its place. One that is not there is put ahead of
+    /// all servers that this option did not put in, behind those that it did; where the list has
+    /// eight, the one whose earlier moment is the first is dropped to make room, of several the one
+    /// furthest back. A server that the area does not name keeps its moments, whatever the router
+    /// lifetime is.
     ///
     /// # Errors
     ///
-    /// In the order in which they are tried: [`Refusal::Clock`] a clock behind the list's;
+    /// In the order in which they are tried: [`Refusal::Clock`] a clock behind the list's, or a
+    /// router lifetime above [`ROUTER_LIFETIME_MAX`](crate::limits::ROUTER_LIFETIME_MAX);
     /// [`Refusal::Area`] an area of over [`AREA_MAX`](crate::limits::AREA_MAX) octets, or with an
     /// option of Length 0 or one past the end. The area is tested whole before anything of it is
     /// applied. A host that gets the latter drops the advertisement.
-    pub fn after(&self, clock: Moment, area: &[u8]) -> Result<ServerList, Refusal> {
-        let told = raw::server_list(&self.0, clock.to_raw(), area);
+    pub fn after(
+        &self,
+        clock: Moment,
+        router_lifetime: Span,
+        area: &[u8],
+    ) -> Result<ServerList, Refusal> {
+        let told = raw::server_list(&self.0, clock.to_raw(), router_lifetime.to_raw(), area);
         Refusal::check(told.refusal).map(|()| ServerList(told.list))
     }
 
@@ -89,9 +167,27 @@ impl ServerList {
     /// # Errors
     ///
     /// Those of [`after`](ServerList::after), which leave the list as it was.
-    pub fn advance(&mut self, clock: Moment, area: &[u8]) -> Result<(), Refusal> {
-        *self = self.after(clock, area)?;
+    pub fn advance(
+        &mut self,
+        clock: Moment,
+        router_lifetime: Span,
+        area: &[u8],
+    ) -> Result<(), Refusal> {
+        *self = self.after(clock, router_lifetime, area)?;
         Ok(())
+    }
+
+    /// Drops the servers that have expired by this clock: what [`advance`](ServerList::advance)
+    /// does with an area without options. A router that was unplugged says nothing, so a host calls
+    /// this from time to time, or when the least [`until`](Server::until) of its servers has
+    /// passed.
+    ///
+    /// # Errors
+    ///
+    /// [`Refusal::Clock`] a clock behind the list's, which leaves the list as it was.
+    pub fn expire(&mut self, clock: Moment) -> Result<(), Refusal> {
+        // No server is named, so the router lifetime plays no part.
+        self.advance(clock, Span::default(), &[])
     }
 
     /// The last accepted clock.
@@ -99,10 +195,9 @@ impl ServerList {
         Moment::from_raw(self.0.clock)
     }
 
-    /// The servers, the preferred one first, each with the last moment at which it is in use.
-    pub fn iter(&self) -> impl Iterator<Item = (Ipv6Addr, Expiry)> + '_ {
-        let held = self.0.held().iter();
-        held.map(|server| (server.address.into(), Expiry::from_raw(server.expiry)))
+    /// The servers, the preferred one first.
+    pub fn iter(&self) -> impl Iterator<Item = Server> + '_ {
+        self.0.held().iter().map(Server::from_raw)
     }
 
     /// How many servers there are.
@@ -123,7 +218,7 @@ impl Default for ServerList {
     }
 }
 
-/// Lists are equal where they have the same servers in the same order, with the same expiries, and
+/// Lists are equal where they have the same servers in the same order, with the same moments, and
 /// the same clock.
 impl PartialEq for ServerList {
     fn eq(&self, other: &ServerList) -> bool {
@@ -137,9 +232,10 @@ impl fmt::Debug for ServerList {
     fn fmt(&self, to: &mut fmt::Formatter) -> fmt::Result {
         write!(to, "ServerList at {} [", self.clock())?;
         let mut between = "";
-        for (address, expiry) in self.iter() {
-            write!(to, "{between}{address} until {expiry}")?;
-            between = ", ";
+        for server in self.iter() {
+            write!(to, "{between}{} until {}", server.address, server.expiry)?;
+            write!(to, ", its router until {}", server.router)?;
+            between = "; ";
         }
         to.write_str("]")
     }

@@ -45,21 +45,62 @@ fn a_partial_name_is_completed() {
     assert_eq!((told.refusal, told.length), (14, 0));
 }
 
-#[test]
-fn a_server_is_held_at_its_expiry_and_gone_after() {
+/// An option for the server 7 7 7 .., for 60 seconds.
+fn area() -> Vec<u8> {
     let mut area = vec![25, 3, 0, 0, 0, 0, 0, 60];
     area.extend([7; 16]);
-    let told = server_list(&ServerListState::default(), Moment(100), &area);
+    area
+}
+
+#[test]
+fn a_server_is_held_at_its_expiry_and_gone_after() {
+    let told = server_list(
+        &ServerListState::default(),
+        Moment(100),
+        Span(1800),
+        &area(),
+    );
     let list = told.list;
     let expected = Server {
         address: [7; 16],
         expiry: Moment(160),
+        router: Moment(1900),
     };
     assert_eq!((told.refusal, list.held()), (0, &[expected][..]));
-    let held_at = |now| server_list(&list, Moment(now), &[]).list.count;
+    let held_at = |now| server_list(&list, Moment(now), Span(0), &[]).list.count;
     assert_eq!((held_at(160), held_at(161)), (1, 0));
-    let cut = server_list(&list, Moment(100), &area[..23]);
+    let cut = server_list(&list, Moment(100), Span(1800), &area()[..23]);
     assert_eq!((cut.refusal, cut.list), (16, list));
+}
+
+#[test]
+fn refusals_of_the_server_list_come_in_their_order() {
+    let area = area();
+    let sound = server_list(&ServerListState::EMPTY, Moment(100), Span(65_535), &area);
+    assert_eq!(sound.refusal, 0);
+    let with = |expiry, router| {
+        let mut list = sound.list;
+        (list.entries[0].expiry, list.entries[0].router) = (expiry, router);
+        list
+    };
+    let ask = |list: &ServerListState, clock, lifetime, area: &[u8]| {
+        let told = server_list(list, Moment(clock), Span(lifetime), area);
+        assert!(told.refusal == 0 || told.list == *list);
+        told.refusal
+    };
+    let cut = &area[..23];
+    for broken in [Moment::NEVER, Moment(Moment::LATEST.0 + 1)] {
+        let list = with(Moment::LATEST, broken);
+        assert_eq!(ask(&list, 99, 65_536, cut), 31);
+    }
+    let broken = with(Moment(Moment::LATEST.0 + 1), Moment::LATEST);
+    assert_eq!(ask(&broken, 99, 65_536, cut), 31);
+    let list = with(Moment::NEVER, Moment::LATEST);
+    assert_eq!(ask(&list, 99, 65_535, cut), 15);
+    assert_eq!(ask(&list, 100, 65_536, cut), 15);
+    assert_eq!(ask(&list, 100, u32::MAX, &[]), 15);
+    assert_eq!(ask(&list, 100, 65_535, cut), 16);
+    assert_eq!(ask(&list, 100, 65_535, &area), 0);
 }
 
 /// A query by the client id "oboe".

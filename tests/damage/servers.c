@@ -43,6 +43,18 @@ static size_t some_area(uint8_t *area)
     return length;
 }
 
+/* A lifetime that a router may have mostly, else one about the limit, or any number. */
+static jespurla_span some_router_lifetime(void)
+{
+    static const uint32_t lifetimes[] = { 0, 1, 60, 1800, 9000, JESPURLA_ROUTER_LIFETIME_MAX };
+    jespurla_span lifetime = { lifetimes[random_below(6)] };
+    if (one_in(32))
+        lifetime.seconds = JESPURLA_ROUTER_LIFETIME_MAX - 1 + (uint32_t)random_below(4);
+    if (one_in(64))
+        lifetime.seconds = (uint32_t)random_next();
+    return lifetime;
+}
+
 /* The list held, at times with a few octets changed, seldom all of them. */
 static jespurla_server_list_state some_list(void)
 {
@@ -56,6 +68,21 @@ static jespurla_server_list_state some_list(void)
     return list;
 }
 
+/* Whether a list that a call made has the form of one, with nothing in it that has expired. */
+static bool is_sound(const jespurla_server_list_state *list, jespurla_moment now)
+{
+    if (list->count > JESPURLA_SERVERS_MAX || list->clock.seconds != now.seconds)
+        return false;
+    for (size_t i = 0; i < list->count; i++) {
+        uint64_t expiry = list->entries[i].expiry.seconds, router = list->entries[i].router.seconds;
+        if ((expiry > JESPURLA_LATEST && expiry != JESPURLA_NEVER) || router > JESPURLA_LATEST)
+            return false;
+        if (expiry < now.seconds || router < now.seconds)
+            return false;
+    }
+    return true;
+}
+
 void turn_servers(void)
 {
     static const uint32_t listed[] = { 31, 15, 16, 0 };
@@ -63,18 +90,21 @@ void turn_servers(void)
     size_t length = some_area(area);
     jespurla_server_list_state list = some_list();
     jespurla_moment now = { list.clock.seconds + random_below(60) };
+    jespurla_span lifetime = some_router_lifetime();
     jespurla_server_list_answer answer;
 
     if (one_in(16))
         now = some_moment();
-    answer = jespurla_server_list(list, now, lend_to_read(AREA, area, length), length);
+    answer = jespurla_server_list(list, now, lifetime, lend_to_read(AREA, area, length), length);
     tally_count(SERVER_LIST, answer.refusal, (uint32_t)answer.list.count & 0xff, listed);
     lend_check(AREA, 0);
+    must(answer.refusal != 0 || lifetime.seconds <= JESPURLA_ROUTER_LIFETIME_MAX,
+         "a router lifetime above its limit is taken");
     if (answer.refusal != 0) {
         must(memcmp(&answer.list, &list, sizeof list) == 0, "a refused list comes back changed");
         return;
     }
-    must(answer.list.count <= 8 && answer.list.clock.seconds == now.seconds, "a list of no form");
+    must(is_sound(&answer.list, now), "a list of no form");
     held = answer.list;
     if (now.seconds > 1000000)
         memset(&held, 0, sizeof held);

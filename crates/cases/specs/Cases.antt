@@ -5,7 +5,7 @@ use mathlib.Core.List.{List, [], _∷_, _++_}
 use mathlib.Core.Option.{none}
 use Prim.Native.Nat.{ℕ}
 use lib.ListN.{replicate}
-use Rattle.clock.specs.Clock.{moment}
+use Rattle.clock.specs.Clock.{moment, span}
 use Rattle.fqdn.specs.Flags.{sent, R, flagAnswer}
 use Rattle.fqdn.specs.Answer.{refused, wrote, answerOf, octetsOf, resultOf}
 use Rattle.fqdn.specs.declared.answer.NameOptionAnswer.{NameOptionAnswer}
@@ -26,7 +26,7 @@ pub data Case : Type 0 where
   flags : ℕ → ℕ → ℕ → FlagAnswer → Case
   -- the answer to an option value with a suffix, neither bit honoured, in a buffer of 256 octets: the octets written and what is answered
   option : List ℕ → List ℕ → List ℕ → NameOptionAnswer → Case
-  -- the server list at a moment after an area that comes in then: the servers held before, with the clock of that list, and those held after
+  -- the server list at a moment after an area that comes in then from a router with a lifetime of 1,800 seconds: the servers held before, with the clock of that list, and those held after
   area : ℕ → List Server → ℕ → List ℕ → List Server → Case
   -- a lease query at a moment over a table, in a buffer of 648 octets: the reply's kind and its ciaddr
   query : ℕ → List Lease → List ℕ → ℕ → ℕ → Case
@@ -52,7 +52,7 @@ unfoldable pub Holds : Case → Type 0
 Holds (flags f s n right) = flagAnswer f s n ≡ right
 Holds (option value suffix octets right) =
     (octetsOf (answerOf value suffix 0 0 256) value suffix ≡ octets) × (resultOf (answerOf value suffix 0 0 256) octets ≡ right)
-Holds (area last before now octets after) = serverList (packed (moment last) before) (moment now) octets ≡ answer 0 (packed (moment now) after)
+Holds (area last before now octets after) = serverList (packed (moment last) before) (moment now) (span 1800) octets ≡ answer 0 (packed (moment now) after)
 Holds (query now table packet kind address) =
     (told (queryAnswer (moment now) table 0 packet 648) .kind ≡ kind) × (numberAt 4 (written (queryAnswer (moment now) table 0 packet 648)) 12 ≡ address)
 Holds (jobs zone x y turns xStage yStage after) =
@@ -66,9 +66,9 @@ All (c ∷ cs) = Holds c × All cs
 abbrev stage : List ℕ
 stage = 5 ∷ 115 ∷ 116 ∷ 97 ∷ 103 ∷ 101 ∷ 0 ∷ []
 
--- the servers of P7 to P9: an address of 16 octets that are alike, until a moment
-abbrev server : ℕ → ℕ → Server
-server octet until = record { address = record { octets = replicate 16 octet }; expiry = moment until }
+-- the servers of P7 to P9: an address of 16 octets that are alike, an expiry and a router moment
+abbrev server : ℕ → ℕ → ℕ → Server
+server octet expiry router = record { address = record { octets = replicate 16 octet }; expiry = moment expiry; router = moment router }
 
 -- an option of Type 25 with a Length and a Lifetime under 256, and the octets of its addresses
 abbrev servers : ℕ → ℕ → List ℕ → List ℕ
@@ -145,14 +145,14 @@ cases =
     ∷ option (0 ∷ 63 ∷ replicate 63 97 ++ (0 ∷ [])) stage (0 ∷ 63 ∷ replicate 63 97 ++ (0 ∷ [])) (wrote 66)
     ∷ option (0 ∷ 64 ∷ replicate 64 97 ++ (0 ∷ [])) stage [] (refused 11)
     -- P7: an option of Length 4 is ignored: it neither renews the server that it names nor withdraws it
-    ∷ area 0 (server 1 90 ∷ []) 0 (servers 4 60 (replicate 24 1)) (server 1 90 ∷ [])
-    ∷ area 0 (server 1 90 ∷ []) 0 (servers 4 0 (replicate 24 1)) (server 1 90 ∷ [])
+    ∷ area 0 (server 1 90 70 ∷ []) 0 (servers 4 60 (replicate 24 1)) (server 1 90 70 ∷ [])
+    ∷ area 0 (server 1 90 70 ∷ []) 0 (servers 4 0 (replicate 24 1)) (server 1 90 70 ∷ [])
     -- P8: the list holds C, an option names A and B: A, B, C
-    ∷ area 0 (server 3 90 ∷ []) 0 (servers 5 60 (replicate 16 1 ++ replicate 16 2)) (server 1 60 ∷ server 2 60 ∷ server 3 90 ∷ [])
+    ∷ area 0 (server 3 90 70 ∷ []) 0 (servers 5 60 (replicate 16 1 ++ replicate 16 2)) (server 1 60 1800 ∷ server 2 60 1800 ∷ server 3 90 70 ∷ [])
     -- P9: Lifetime 60 at 100; held at 160, gone at 161
-    ∷ area 0 [] 100 (servers 3 60 (replicate 16 1)) (server 1 160 ∷ [])
-    ∷ area 100 (server 1 160 ∷ []) 160 [] (server 1 160 ∷ [])
-    ∷ area 100 (server 1 160 ∷ []) 161 [] []
+    ∷ area 0 [] 100 (servers 3 60 (replicate 16 1)) (server 1 160 1900 ∷ [])
+    ∷ area 100 (server 1 160 1900 ∷ []) 160 [] (server 1 160 1900 ∷ [])
+    ∷ area 100 (server 1 160 1900 ∷ []) 161 [] []
     -- P10: two active leases with equal transaction moments: the lower address; and where all have expired, unknown
     ∷ query 100 (lease 7 ∷ lease 9 ∷ []) packet 13 7
     ∷ query 100 (lease 7 ∷ lease 9 ∷ []) packetByHardware 13 7

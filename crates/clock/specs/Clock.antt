@@ -1,6 +1,6 @@
 -- Moments on the clock and spans of seconds. Document 01 keeps them apart in every record; their types do here.
 use Prim.Native.Nat.{ℕ, _+_, _-_, min}
-use mathlib.Core.Bool.{Bool, cond, not, _&&_, _||_}
+use mathlib.Core.Bool.{Bool, cond, _||_}
 use lib.Dec.{ltb, leb, eqb}
 use Rattle.clock.specs.declared.Moment.{Moment}
 use Rattle.clock.specs.declared.Span.{Span}
@@ -33,17 +33,21 @@ isMoment m = leb (m .0) latest
 unfoldable pub isExpiry : Moment → Bool
 isExpiry m = isNever m || isMoment m
 
--- Document 01, "Server list": an entry goes when its expiry is less than now. Never is not.
-unfoldable pub isPast : Moment → Moment → Bool
-isPast expiry clock = not (isNever expiry) && ltb (expiry .0) (clock .0)
+-- Document 01, "Server list": what ends at a moment is past when that moment is less than now.
+abbrev pub isPast : Moment → Moment → Bool
+isPast end clock = ltb (end .0) (clock .0)
 
 -- Document 01, "Lease table and queries": a lease runs while its expiry is never or later than now.
 unfoldable pub isAhead : Moment → Moment → Bool
 isAhead expiry clock = isNever expiry || ltb (clock .0) (expiry .0)
 
+-- Document 01, "Server list", and document 02, b): now and a span, at most the latest moment.
+unfoldable pub momentAfter : Moment → Span → Moment
+momentAfter clock after = moment (min (clock .0 + after .0) latest)
+
 -- Document 01, "Server list": now and the Lifetime, at most the latest moment; never for the Lifetime of all ones.
 unfoldable pub expiryAfter : Moment → Span → Moment
-expiryAfter clock lifetime = cond (eqb (lifetime .0) endless) (moment never) (moment (min (clock .0 + lifetime .0) latest))
+expiryAfter clock lifetime = cond (eqb (lifetime .0) endless) (moment never) (momentAfter clock lifetime)
 
 -- Document 01, "Lease table and queries", option 51: seconds to expiry, one less than all ones at most; all ones for never.
 unfoldable pub secondsLeft : Moment → Moment → Span

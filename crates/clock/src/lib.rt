@@ -1,7 +1,7 @@
 // Moments on the clock and spans of seconds, kept apart by their types.
 ghost use mathlib.Core.Path.{_≡_};
 ghost use Prim.Native.Nat.{_-_, min};
-ghost use Rattle.clock.specs.Clock.{span, isMoment, isExpiry, isPast, isAhead, expiryAfter, secondsLeft, secondsSince};
+ghost use Rattle.clock.specs.Clock.{span, isMoment, isExpiry, isPast, isAhead, momentAfter, expiryAfter, secondsLeft, secondsSince};
 
 // A moment on the clock, in seconds: 0 to LATEST. As an expiry it may also be NEVER.
 #[repr(C)]
@@ -37,14 +37,11 @@ pub fn is_expiry(m: Moment) -> bool
     m.0 <= LATEST
 }
 
-// Whether an expiry is before now. Never is not.
-pub fn is_past(expiry: Moment, clock: Moment) -> bool
-    ensures { λ r. ⌜ r ≡ isPast expiry clock ⌝ }
+// Whether what ends at a moment is past: that moment is before now.
+pub fn is_past(end: Moment, clock: Moment) -> bool
+    ensures { λ r. ⌜ r ≡ isPast end clock ⌝ }
 {
-    if expiry.0 == NEVER {
-        return false;
-    }
-    expiry.0 < clock.0
+    end.0 < clock.0
 }
 
 // Whether an expiry is never or later than now.
@@ -57,19 +54,26 @@ pub fn is_ahead(expiry: Moment, clock: Moment) -> bool
     clock.0 < expiry.0
 }
 
+// The moment a span from now: at most LATEST.
+pub fn moment_after(clock: Moment, after: Span) -> Moment
+    ensures { λ r. ⌜ r ≡ momentAfter clock after ⌝ }
+{
+    let n = clock.0;
+    let s = after.0 as u64;
+    if LATEST - s < n {
+        return Moment(LATEST);
+    }
+    Moment(n + s)
+}
+
 // The expiry of a lifetime that starts now: at most LATEST, and never for a lifetime without end.
 pub fn expiry_after(clock: Moment, lifetime: Span) -> Moment
     ensures { λ r. ⌜ r ≡ expiryAfter clock lifetime ⌝ }
 {
-    let n = clock.0;
-    let s = lifetime.0;
-    if s == ENDLESS {
+    if lifetime.0 == ENDLESS {
         return Moment(NEVER);
     }
-    if LATEST - (s as u64) < n {
-        return Moment(LATEST);
-    }
-    Moment(n + (s as u64))
+    moment_after(clock, lifetime)
 }
 
 // The seconds from one number to a later one, 0 where it is not later.

@@ -1,44 +1,51 @@
 -- The laws of one option and of the whole call. Assumes nothing.
 use mathlib.Core.Path.{_≡_}
 use mathlib.Core.Bool.{true, false}
-use mathlib.Core.List.{List, foldl}
+use mathlib.Core.List.{List, [], foldl}
 use Prim.Native.Nat.{ℕ, _≤_, _<_}
-use lib.Dec.{leb, eqb}
+use lib.Dec.{leb}
 use Rattle.octets.proofs.BoolLaws.{and-right}
 use lib.ListN.{length}
-use borrow.Author.Tests.{le-leb, lt-leb, eq-eqb, ne-eqb}
-use Rattle.clock.specs.Clock.{expiryAfter}
+use borrow.Author.Tests.{le-leb, lt-leb}
 use Rattle.clock.specs.declared.Moment.{Moment}
-use Rattle.serverlist.specs.Entries.{places, removed, namedAll}
+use Rattle.clock.specs.declared.Span.{Span}
+use Rattle.entries.specs.Entries.{Kind, places, removed, namedAll}
+use Rattle.entries.proofs.MarkLaws.{withdrawn-all, all-fits}
 use Rattle.serverlist.specs.Servers.{servers, held, packed, isSound, isTimely}
 use Rattle.serverlist.specs.declared.Server.{Server}
 use Rattle.serverlist.specs.declared.ServerList.{ServerList}
-use Rattle.serverlist.proofs.EntryLaws.{cond-case}
-use Rattle.serverlist.proofs.MarkLaws.{withdrawn-all, all-fits}
-use Rattle.rdnss.specs.Area.{isWhole, isArea, isActing, lifetimeOf, addresses}
-use Rattle.rdnss.specs.ServerList.{applied, answer, optionApplied, serverList}
+use Rattle.rdnss.specs.Area.{isWhole, isArea, isActing, addresses, namedBy}
+use Rattle.rdnss.specs.Options.{isRouterLifetime, isWithdrawing, momentsOf, optionApplied}
+use Rattle.rdnss.specs.ServerList.{serversAfter, answer, serverList}
+use Rattle.rdnss.proofs.NamingLaws.{unmarked-items}
 
-module _ (clock : Moment) (l : List Server) (v : List ℕ) where
-  pub ignored : isActing v ≡ false → optionApplied clock l v ≡ l
+-- an option names the addresses that count where it acts, and none where it does not
+pub named-none : (v : List ℕ) → isActing v ≡ false → namedBy v ≡ []
+unfolding namedBy
+named-none v h = rw h
+
+pub named-if : (v : List ℕ) → isActing v ≡ true → namedBy v ≡ addresses v
+unfolding namedBy
+named-if v h = rw h
+
+module _ (clock : Moment) (router : Span) where
+  pub option-fits : {K E : Type 0} (kind : Kind K E) (names : List ℕ → List K) (l : List E) (v : List ℕ) → length l ≤ places → length (optionApplied clock router kind names l v) ≤ places
   unfolding optionApplied
-  ignored h = rw h
+  option-fits kind names l v h = all-fits kind (isWithdrawing router v) (momentsOf clock router v) (names v) l h
 
-  module _ (h : isActing v ≡ true) where
-    pub acting : optionApplied clock l v ≡ namedAll servers (eqb (lifetimeOf v .0) 0) (expiryAfter clock (lifetimeOf v)) (addresses v) l
-    unfolding optionApplied
-    acting = rw h
+  module _ (l : List Server) (v : List ℕ) where
+    pub ignored : isActing v ≡ false → optionApplied clock router servers namedBy l v ≡ l
+    unfolding optionApplied namedAll
+    ignored h = rw (named-none v h) (unmarked-items l)
 
-    pub withdraws : lifetimeOf v .0 ≡ 0 → optionApplied clock l v ≡ foldl (λ t a. removed servers a t) l (addresses v)
-    unfolding optionApplied
-    withdraws z = rw (h, eq-eqb (lifetimeOf v .0) 0 z) (withdrawn-all servers (expiryAfter clock (lifetimeOf v)) (addresses v) l)
+    module _ (h : isActing v ≡ true) where
+      pub withdraws : isWithdrawing router v ≡ true → optionApplied clock router servers namedBy l v ≡ foldl (λ t a. removed servers a t) l (addresses v)
+      unfolding optionApplied
+      withdraws z = rw (z, named-if v h) (withdrawn-all servers (momentsOf clock router v) (addresses v) l)
 
-    pub names : (lifetimeOf v .0 ≡ 0 → ⊥) → optionApplied clock l v ≡ namedAll servers false (expiryAfter clock (lifetimeOf v)) (addresses v) l
-    unfolding optionApplied
-    names n = rw (h, ne-eqb (lifetimeOf v .0) 0 n)
-
-  pub option-fits : length l ≤ places → length (optionApplied clock l v) ≤ places
-  unfolding optionApplied
-  option-fits h = cond-case (λ (m : List Server). length m ≤ places) (isActing v) (λ _. all-fits servers (eqb (lifetimeOf v .0) 0) (expiryAfter clock (lifetimeOf v)) (addresses v) l h) (λ _. h)
+      pub names : isWithdrawing router v ≡ false → optionApplied clock router servers namedBy l v ≡ namedAll servers false (momentsOf clock router v) (addresses v) l
+      unfolding optionApplied
+      names n = rw (n, named-if v h)
 
 pub area-long : (area : List ℕ) → 1500 < length area → isArea area ≡ false
 unfolding isArea
@@ -53,21 +60,26 @@ unfolding isArea
 area-whole area h = and-right (leb (length area) 1500) (isWhole 0 area) h
 
 -- the stages of the call
-module _ (list : ServerList) (clock : Moment) (area : List ℕ) where
-  pub refused-31 : isSound list ≡ false → answer 31 list ≡ serverList list clock area
+module _ (list : ServerList) (clock : Moment) (router : Span) (area : List ℕ) where
+  pub refused-31 : isSound list ≡ false → answer 31 list ≡ serverList list clock router area
   unfolding serverList
   refused-31 h = rw h
 
   module _ (s : isSound list ≡ true) where
-    pub refused-15 : isTimely list clock ≡ false → answer 15 list ≡ serverList list clock area
+    pub refused-15 : isTimely list clock ≡ false → answer 15 list ≡ serverList list clock router area
     unfolding serverList
     refused-15 h = rw (s, h)
 
     module _ (t : isTimely list clock ≡ true) where
-      pub refused-16 : isArea area ≡ false → answer 16 list ≡ serverList list clock area
+      pub refused-router : isRouterLifetime router ≡ false → answer 15 list ≡ serverList list clock router area
       unfolding serverList
-      refused-16 h = rw (s, t, h)
+      refused-router h = rw (s, t, h)
 
-      pub accepted : isArea area ≡ true → answer 0 (packed clock (applied clock area (held list))) ≡ serverList list clock area
-      unfolding serverList
-      accepted h = rw (s, t, h)
+      module _ (r : isRouterLifetime router ≡ true) where
+        pub refused-16 : isArea area ≡ false → answer 16 list ≡ serverList list clock router area
+        unfolding serverList
+        refused-16 h = rw (s, t, r, h)
+
+        pub accepted : isArea area ≡ true → answer 0 (packed clock (serversAfter clock router area (held list))) ≡ serverList list clock router area
+        unfolding serverList
+        accepted h = rw (s, t, r, h)

@@ -8,9 +8,10 @@ use lib.ListN.{length, length-map}
 use native.Mathlib.Omega.{arith}
 use borrow.Author.Tests.{ltb-false, le-leb}
 use Rattle.octets.proofs.BoolLaws.{or-left, or-right}
-use Rattle.serverlist.specs.Entries.{Kind, Marked, places, keep, oneOf, isAbout, isHeld, removed, renewed, evicted, roomed, items, inserted, marking, named}
-use Rattle.serverlist.proofs.EntryLaws.{cond-case}
-use Rattle.serverlist.proofs.SoundLaws.{Lawful, lawful-marking, inserted-one}
+use Rattle.entries.specs.Entries.{Kind, Marked, places, keep, oneOf, isAbout, isHeld, removed, renewed, evicted, roomed, items, inserted, marking, named}
+use Rattle.entries.specs.declared.Moments.{Moments}
+use Rattle.entries.proofs.EntryLaws.{cond-case}
+use Rattle.entries.proofs.SoundLaws.{Lawful, lawful-marking, inserted-one}
 use Rattle.rdnss.specs.Claims.{Evicts, Less, none, stays, goes, hasNoRoom, fullLists, WasEvicted, here, later}
 use Rattle.rdnss.proofs.NamingLaws.{items-one, items-keep, items-evicted, removed-keeps, renewed-keeps, made-out, inserted-keeps}
 
@@ -67,11 +68,11 @@ module _ {E : Type 0} {gone : E → Type 0} where
       at true p = stays p
       at false p = p
 
-  pub less-evicted : {K X : Type 0} (kind : Kind K X E) (test : E → Bool) (l : List E) (v : Evicts kind l) → gone (v .gone) → Less gone (keep test l) (keep test (evicted kind l))
+  pub less-evicted : {K : Type 0} (kind : Kind K E) (test : E → Bool) (l : List E) (v : Evicts kind l) → gone (v .gone) → Less gone (keep test l) (keep test (evicted kind l))
   less-evicted kind test l v g = rw (v .left) (subst (λ (r : List E). Less gone (keep test r) (keep test (v .front ++ v .back))) (sym (v .stood)) (less-middle test (v .front) (v .back) (v .gone) g))
 
 -- evictions among more lists
-module _ {K X E : Type 0} {kind : Kind K X E} {e : E} where
+module _ {K E : Type 0} {kind : Kind K E} {e : E} where
   pub evicted-front : {ls : List (List E)} (ms : List (List E)) → WasEvicted kind e ls → WasEvicted kind e (ls ++ ms)
   evicted-front ms (here v h) = here v h
   evicted-front ms (later w) = later (evicted-front ms w)
@@ -84,16 +85,16 @@ module _ {K X E : Type 0} {kind : Kind K X E} {e : E} where
   behind-full true l ls q = later q
   behind-full false l ls q = q
 
-pub first-full : {K X E : Type 0} {kind : Kind K X E} (c : Bool) (l : List E) (ls : List (List E)) → c ≡ true → (v : Evicts kind l) → WasEvicted kind (v .gone) (cond c (l ∷ ls) ls)
+pub first-full : {K E : Type 0} {kind : Kind K E} (c : Bool) (l : List E) (ls : List (List E)) → c ≡ true → (v : Evicts kind l) → WasEvicted kind (v .gone) (cond c (l ∷ ls) ls)
 first-full true l ls q v = here v refl
 first-full false l ls q v = absurd (false≢true q)
 
 -- the keys of an option, none of which a test's entries are about
-module _ {K X E : Type 0} (kind : Kind K X E) (w : Lawful kind) (takes : (l : List E) → 0 < length l → Evicts kind l) (gone : E → Type 0) (test : E → Bool) where
+module _ {K E : Type 0} (kind : Kind K E) (w : Lawful kind) (takes : (l : List E) → 0 < length l → Evicts kind l) (gone : E → Type 0) (test : E → Bool) where
   same-items : (l m : List (Marked E)) → keep (λ n. test (n .item)) l ≡ keep (λ n. test (n .item)) m → keep test (items m) ≡ keep test (items l)
   same-items l m h = items-keep test m ∙ ap items (sym h) ∙ sym (items-keep test l)
 
-  inserted-less : (l : List (Marked E)) (k : K) (x : X) → test (kind .entry k x) ≡ false → (places ≤ length l → (v : Evicts kind (items l)) → gone (v .gone))
+  inserted-less : (l : List (Marked E)) (k : K) (x : Moments) → test (kind .entry k x) ≡ false → (places ≤ length l → (v : Evicts kind (items l)) → gone (v .gone))
       → Less gone (keep test (items l)) (keep test (items (inserted (marking kind .entry k x) (roomed (marking kind) l))))
   unfolding roomed
   inserted-less l k x n g =
@@ -107,7 +108,7 @@ module _ {K X E : Type 0} (kind : Kind K X E) (w : Lawful kind) (takes : (l : Li
       same : (r : List (Marked E)) → keep test (items (inserted (marking kind .entry k x) r)) ≡ keep test (items r)
       same r = same-items r (inserted (marking kind .entry k x) r) (inserted-keeps (λ m. test (m .item)) (marking kind .entry k x) n r)
 
-  named-less : (b : Bool) (x : X) (l : List (Marked E)) (k : K) → ((e : E) → isAbout kind k e ≡ true → test e ≡ false) → (hasNoRoom kind b l k ≡ true → (v : Evicts kind (items l)) → gone (v .gone))
+  named-less : (b : Bool) (x : Moments) (l : List (Marked E)) (k : K) → ((e : E) → isAbout kind k e ≡ true → test e ≡ false) → (hasNoRoom kind b l k ≡ true → (v : Evicts kind (items l)) → gone (v .gone))
       → Less gone (keep test (items l)) (keep test (items (named kind b x l k)))
   unfolding named
   named-less b x l k out g =
@@ -118,7 +119,7 @@ module _ {K X E : Type 0} (kind : Kind K X E) (w : Lawful kind) (takes : (l : Li
       (λ _. less-equal (same-items l (renewed (marking kind) k x l) (renewed-keeps (marking kind) (lawful-marking kind w) (λ m. test (m .item)) k (λ m. out (m .item)) x l)))
       (λ a. inserted-less l k x (made-out kind w test k out x) (λ h. g (rw (f, a, le-leb places (length l) h)))))
 
-  pub keys-less : (b : Bool) (x : X) (keys : List K) (l : List (Marked E)) → ((e : E) → oneOf (λ k. isAbout kind k e) keys ≡ true → test e ≡ false)
+  pub keys-less : (b : Bool) (x : Moments) (keys : List K) (l : List (Marked E)) → ((e : E) → oneOf (λ k. isAbout kind k e) keys ≡ true → test e ≡ false)
       → ((e : E) → WasEvicted kind e (fullLists kind b x l keys) → gone e) → Less gone (keep test (items l)) (keep test (items (foldl (named kind b x) l keys)))
   unfolding oneOf fullLists
   keys-less b x [] l out g = less-same (keep test (items l))
@@ -128,7 +129,7 @@ module _ {K X E : Type 0} (kind : Kind K X E) (w : Lawful kind) (takes : (l : Li
       (keys-less b x keys (named kind b x l k) (λ e t. out e (ap (λ (c : Bool). isAbout kind k e || c) t ∙ or-true (isAbout kind k e))) (λ e q. g e (behind-full (hasNoRoom kind b l k) (items l) (fullLists kind b x (named kind b x l k) keys) q)))
 
 -- a key that is named, not withdrawn, has its entry then, or that was evicted
-module _ {K X E : Type 0} (kind : Kind K X E) (w : Lawful kind) (takes : (l : List E) → 0 < length l → Evicts kind l) (a : K) (x : X) (test : E → Bool)
+module _ {K E : Type 0} (kind : Kind K E) (w : Lawful kind) (takes : (l : List E) → 0 < length l → Evicts kind l) (a : K) (x : Moments) (test : E → Bool)
     (about : (e : E) → test e ≡ true → isAbout kind a e ≡ true) (made : (k : K) → kind .same k a ≡ true → test (kind .entry k x) ≡ true)
     (kept : (e : E) → isAbout kind a e ≡ true → test (kind .renew x e) ≡ true) where
   renewed-has : (k : K) (l : List (Marked E)) → kind .same k a ≡ true → isHeld (marking kind) k l ≡ true → oneOf (λ m. test (m .item)) (renewed (marking kind) k x l) ≡ true

@@ -1,8 +1,9 @@
 -- Laws that belong to no one function.
-pub mod OptionLaws
+pub mod AddressLaws
 pub mod AreaLaws
 pub mod GrammarLaws
 pub mod CallLaws
 pub mod NamingLaws
 pub mod KeepingLaws
+pub mod GoodbyeLaws
 pub mod Theorems

@@ -4,9 +4,10 @@ use mathlib.Core.Bool.{Bool, true, false, not, cond, _&&_, _||_, false≢true}
 use mathlib.Core.List.{List, [], _∷_, map, foldl}
 use borrow.Author.Tests.{not-true}
 use Rattle.octets.proofs.BoolLaws.{and-both, and-left, and-right, or-left, or-right}
-use Rattle.serverlist.specs.Entries.{Kind, Marked, keep, oneOf, each, isAbout, isHeld, distinct, removed, renewed, evicted, roomed, unmarked, items, inserted, marking, named, namedAll}
-use Rattle.serverlist.proofs.EntryLaws.{cond-case}
-use Rattle.serverlist.proofs.SoundLaws.{Lawful, lawful-marking, part-each, part-none, part-distinct, removed-part, roomed-part, renewed-held, renewed-distinct, renewed-each, inserted-one, inserted-each}
+use Rattle.entries.specs.Entries.{Kind, Marked, keep, oneOf, each, isAbout, isHeld, distinct, removed, renewed, evicted, roomed, unmarked, items, inserted, marking, named, namedAll, noLater}
+use Rattle.entries.specs.declared.Moments.{Moments}
+use Rattle.entries.proofs.EntryLaws.{cond-case}
+use Rattle.entries.proofs.SoundLaws.{Lawful, lawful-marking, part-each, part-none, part-distinct, removed-part, roomed-part, renewed-held, renewed-distinct, renewed-each, inserted-one, inserted-each}
 
 -- Marks play no part in what holds of the entries.
 module _ {E : Type 0} where
@@ -34,7 +35,7 @@ module _ {E : Type 0} where
       go true h = ap (λ (r : List E). m .item ∷ r) h
       go false h = h
 
-module _ {K X E : Type 0} (kind : Kind K X E) where
+module _ {K E : Type 0} (kind : Kind K E) where
   pub items-distinct : (l : List (Marked E)) → distinct kind (items l) ≡ distinct (marking kind) l
   unfolding distinct
   items-distinct [] = refl
@@ -44,8 +45,8 @@ module _ {K X E : Type 0} (kind : Kind K X E) where
   unfolding evicted
   items-evicted [] = refl
   items-evicted (m ∷ l) =
-      go (oneOf (λ d. kind .noLater (d .item) (m .item)) l) (items-evicted l)
-      ∙ ap (λ (b : Bool). cond b (m .item ∷ evicted kind (items l)) (items l)) (sym (items-one (λ d. kind .noLater d (m .item)) l))
+      go (oneOf (λ d. noLater kind (d .item) (m .item)) l) (items-evicted l)
+      ∙ ap (λ (b : Bool). cond b (m .item ∷ evicted kind (items l)) (items l)) (sym (items-one (λ d. noLater kind d (m .item)) l))
     where
       go : (b : Bool) → items (evicted (marking kind) l) ≡ evicted kind (items l)
           → items (cond b (m ∷ evicted (marking kind) l) l) ≡ cond b (m .item ∷ evicted kind (items l)) (items l)
@@ -53,8 +54,8 @@ module _ {K X E : Type 0} (kind : Kind K X E) where
       go false h = refl
 
 -- Sound lists stay sound: no key twice, and each entry passes a test that what is new passes.
-module _ {K X E : Type 0} (kind : Kind K X E) (w : Lawful kind) where
-  pub inserted-distinct : (k : K) (x : X) (l : List (Marked E)) → isHeld (marking kind) k l ≡ false → distinct (marking kind) l ≡ true → distinct (marking kind) (inserted (marking kind .entry k x) l) ≡ true
+module _ {K E : Type 0} (kind : Kind K E) (w : Lawful kind) where
+  pub inserted-distinct : (k : K) (x : Moments) (l : List (Marked E)) → isHeld (marking kind) k l ≡ false → distinct (marking kind) l ≡ true → distinct (marking kind) (inserted (marking kind .entry k x) l) ≡ true
   unfolding inserted distinct oneOf
   inserted-distinct k x [] n h = refl
   inserted-distinct k x (d ∷ l) n h =
@@ -67,7 +68,7 @@ module _ {K X E : Type 0} (kind : Kind K X E) (w : Lawful kind) where
       (λ _. and-both _ _ (ap not f) (inserted-distinct k x l (or-right (isAbout (marking kind) k d) (isHeld (marking kind) k l) n) (and-right (not (isHeld (marking kind) (kind .about (d .item)) l)) (distinct (marking kind) l) h)))
       (λ _. and-both _ _ (ap not g) h)
 
-  pub named-distinct : (b : Bool) (x : X) (l : List (Marked E)) (k : K) → distinct (marking kind) l ≡ true → distinct (marking kind) (named kind b x l k) ≡ true
+  pub named-distinct : (b : Bool) (x : Moments) (l : List (Marked E)) (k : K) → distinct (marking kind) l ≡ true → distinct (marking kind) (named kind b x l k) ≡ true
   unfolding named
   named-distinct b x l k h =
       cond-case (λ (r : List (Marked E)). distinct (marking kind) r ≡ true) b
@@ -77,7 +78,7 @@ module _ {K X E : Type 0} (kind : Kind K X E) (w : Lawful kind) where
       (λ _. renewed-distinct (marking kind) (lawful-marking kind w) k x l ∙ h)
       (λ n. inserted-distinct k x (roomed (marking kind) l) (part-none (isAbout (marking kind) k) (roomed-part (marking kind) l) n) (part-distinct (marking kind) (roomed-part (marking kind) l) h)))
 
-  pub all-distinct : (b : Bool) (x : X) (keys : List K) (l : List E) → distinct kind l ≡ true → distinct kind (namedAll kind b x keys l) ≡ true
+  pub all-distinct : (b : Bool) (x : Moments) (keys : List K) (l : List E) → distinct kind l ≡ true → distinct kind (namedAll kind b x keys l) ≡ true
   unfolding namedAll
   all-distinct b x keys l h = items-distinct kind _ ∙ go keys (map unmarked l) (sym (items-distinct kind (map unmarked l)) ∙ ap (distinct kind) (unmarked-items l) ∙ h)
     where
@@ -85,7 +86,7 @@ module _ {K X E : Type 0} (kind : Kind K X E) (w : Lawful kind) where
       go [] l h = h
       go (k ∷ keys) l h = go keys (named kind b x l k) (named-distinct b x l k h)
 
-module _ {K X E : Type 0} (kind : Kind K X E) (p : E → Bool) (x : X) (made : (k : K) → p (kind .entry k x) ≡ true) (kept : (e : E) → p (kind .renew x e) ≡ true) where
+module _ {K E : Type 0} (kind : Kind K E) (p : E → Bool) (x : Moments) (made : (k : K) → p (kind .entry k x) ≡ true) (kept : (e : E) → p (kind .renew x e) ≡ true) where
   pub named-each : (b : Bool) (l : List (Marked E)) (k : K) → each (λ m. p (m .item)) l ≡ true → each (λ m. p (m .item)) (named kind b x l k) ≡ true
   unfolding named
   named-each b l k h =
@@ -105,7 +106,7 @@ module _ {K X E : Type 0} (kind : Kind K X E) (p : E → Bool) (x : X) (made : (
       go (k ∷ keys) l h = go keys (named kind b x l k) (named-each b l k h)
 
 -- A key that was withdrawn is absent, and stays so until it is named again.
-module _ {K X E : Type 0} (kind : Kind K X E) (w : Lawful kind) where
+module _ {K E : Type 0} (kind : Kind K E) (w : Lawful kind) where
   pub held-alike : (i j : K) → kind .same i j ≡ true → (l : List E) → isHeld kind i l ≡ isHeld kind j l
   unfolding oneOf
   held-alike i j h [] = refl
@@ -134,7 +135,7 @@ module _ {K X E : Type 0} (kind : Kind K X E) (w : Lawful kind) where
       go true t q i = withdrawn-stays a keys (removed kind k l) (sym (held-alike k a t (removed kind k l)) ∙ removed-absent k l h)
       go false t q i = i q
 
-  named-stays-absent : (a : K) (b : Bool) (x : X) (l : List (Marked E)) (k : K) → kind .same k a ≡ false → isHeld (marking kind) a l ≡ false → isHeld (marking kind) a (named kind b x l k) ≡ false
+  named-stays-absent : (a : K) (b : Bool) (x : Moments) (l : List (Marked E)) (k : K) → kind .same k a ≡ false → isHeld (marking kind) a l ≡ false → isHeld (marking kind) a (named kind b x l k) ≡ false
   unfolding named
   named-stays-absent a b x l k n h =
       cond-case (λ (r : List (Marked E)). isHeld (marking kind) a r ≡ false) b
@@ -147,7 +148,7 @@ module _ {K X E : Type 0} (kind : Kind K X E) (w : Lawful kind) where
       ∙ ap (λ (t : Bool). t || isHeld (marking kind) a (roomed (marking kind) l)) (ap (kind .same a) (w .made k x) ∙ w .turned a k ∙ n)
       ∙ part-none (isAbout (marking kind) a) (roomed-part (marking kind) l) h))
 
-  pub all-stay-absent : (a : K) (b : Bool) (x : X) (keys : List K) (l : List E) → oneOf (λ k. kind .same k a) keys ≡ false → isHeld kind a l ≡ false → isHeld kind a (namedAll kind b x keys l) ≡ false
+  pub all-stay-absent : (a : K) (b : Bool) (x : Moments) (keys : List K) (l : List E) → oneOf (λ k. kind .same k a) keys ≡ false → isHeld kind a l ≡ false → isHeld kind a (namedAll kind b x keys l) ≡ false
   unfolding namedAll oneOf
   all-stay-absent a b x keys l n h = items-one (isAbout kind a) (foldl (named kind b x) (map unmarked l) keys) ∙ go keys (map unmarked l) n (sym (items-one (isAbout kind a) (map unmarked l)) ∙ ap (isHeld kind a) (unmarked-items l) ∙ h)
     where
@@ -156,7 +157,7 @@ module _ {K X E : Type 0} (kind : Kind K X E) (w : Lawful kind) where
       go (k ∷ keys) l n h = go keys (named kind b x l k) (or-right (kind .same k a) (oneOf (λ k. kind .same k a) keys) n) (named-stays-absent a b x l k (or-left (kind .same k a) (oneOf (λ k. kind .same k a) keys) n) h)
 
 -- Entries that pass a test which none about the key passes are left as they are.
-module _ {K X E : Type 0} (kind : Kind K X E) (w : Lawful kind) (test : E → Bool) (k : K) (out : (e : E) → isAbout kind k e ≡ true → test e ≡ false) where
+module _ {K E : Type 0} (kind : Kind K E) (w : Lawful kind) (test : E → Bool) (k : K) (out : (e : E) → isAbout kind k e ≡ true → test e ≡ false) where
   pub removed-keeps : (l : List E) → keep test l ≡ keep test (removed kind k l)
   unfolding keep removed
   removed-keeps [] = refl
@@ -165,10 +166,10 @@ module _ {K X E : Type 0} (kind : Kind K X E) (w : Lawful kind) (test : E → Bo
       (λ t. ap (λ (b : Bool). cond b (e ∷ keep test l) (keep test l)) (out e t))
       (λ _. ap (λ (m : List E). cond (test e) (e ∷ m) m) (removed-keeps l))
 
-  pub renewed-out : (x : X) (e : E) → isAbout kind k e ≡ true → test (kind .renew x e) ≡ false
+  pub renewed-out : (x : Moments) (e : E) → isAbout kind k e ≡ true → test (kind .renew x e) ≡ false
   renewed-out x e t = out (kind .renew x e) (ap (kind .same k) (w .kept x e) ∙ t)
 
-  pub renewed-keeps : (x : X) (l : List E) → keep test l ≡ keep test (renewed kind k x l)
+  pub renewed-keeps : (x : Moments) (l : List E) → keep test l ≡ keep test (renewed kind k x l)
   unfolding keep renewed
   renewed-keeps x [] = refl
   renewed-keeps x (e ∷ l) =
@@ -176,7 +177,7 @@ module _ {K X E : Type 0} (kind : Kind K X E) (w : Lawful kind) (test : E → Bo
       (λ t. ap (λ (b : Bool). cond b (e ∷ keep test l) (keep test l)) (out e t) ∙ sym (ap (λ (b : Bool). cond b (kind .renew x e ∷ keep test l) (keep test l)) (renewed-out x e t)))
       (λ _. ap (λ (m : List E). cond (test e) (e ∷ m) m) (renewed-keeps x l))
 
-  pub made-out : (x : X) → test (kind .entry k x) ≡ false
+  pub made-out : (x : Moments) → test (kind .entry k x) ≡ false
   made-out x = out (kind .entry k x) (ap (kind .same k) (w .made k x) ∙ w .self k)
 
 pub inserted-keeps : {E : Type 0} (test : Marked E → Bool) (m : Marked E) → test m ≡ false → (l : List (Marked E)) → keep test l ≡ keep test (inserted m l)

@@ -1,5 +1,5 @@
 -- A router's option area and what an option of it says. Document 01, "Server list"; the layout is that of RFC 5006, section 5.1.
-use mathlib.Core.Bool.{Bool, true, false, _&&_}
+use mathlib.Core.Bool.{Bool, true, false, cond, _&&_}
 use mathlib.Core.List.{List, [], _∷_}
 use Prim.Native.Nat.{ℕ, zero, suc, _+_, _-_, _*_, _/_, _%_, min}
 use lib.Dec.{leb, eqb}
@@ -71,3 +71,7 @@ addressCount option = min ((lengthOf option - 1) / 2) counted
 -- The addresses that count; they start at octet 8.
 abbrev pub addresses : List ℕ → List Address6
 addresses option = addressesFrom (addressCount option) (drop 8 option)
+
+-- The addresses that an option names: those that count, if it acts.
+unfoldable pub namedBy : List ℕ → List Address6
+namedBy option = cond (isActing option) (addresses option) []

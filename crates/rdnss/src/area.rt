@@ -1,10 +1,12 @@
 // The option area of a router: tested whole first, and then applied.
 use crate::option;
 use clock::Moment;
+use clock::Span;
 use serverlist::ServerList;
 ghost use mathlib.Core.Path.{_≡_};
 ghost use mathlib.Core.Bool.{true};
-ghost use Rattle.serverlist.specs.Places.{InPlaces};
+ghost use Rattle.entries.specs.Places.{InPlaces};
+ghost use Rattle.serverlist.specs.Places.{serverPlaces};
 ghost use Rattle.rdnss.specs.Area.{isWhole, isArea};
 ghost use Rattle.rdnss.specs.Places.{Applies};
 
@@ -44,15 +46,15 @@ pub(crate) fn is_area(area: &[u8]) -> bool
 }
 
 // Each option of a whole area applied, from the first to the last.
-pub(crate) fn apply_all(l: ServerList, area: &[u8], clock: Moment) -> ServerList
-    requires { ⌜ InPlaces l × (isWhole 0 (now area) ≡ true) ⌝ }
-    ensures { λ r. ⌜ Applies l clock (now (area .entry)) r ⌝ }
+pub(crate) fn apply_all(l: ServerList, area: &[u8], clock: Moment, router: Span) -> ServerList
+    requires { ⌜ InPlaces serverPlaces l × (isWhole 0 (now area) ≡ true) ⌝ }
+    ensures { λ r. ⌜ Applies l clock router (now (area .entry)) r ⌝ }
 {
     let mut m = l;
     let mut at: usize = 0;
     while at < area.len() {
         let end = at + area[at + 1] as usize * 8;
-        m = option::apply(m, &area[at..end], clock);
+        m = option::apply(m, &area[at..end], clock, router);
         at = end;
     }
     m

@@ -3,11 +3,16 @@ pub mod area;
 pub mod option;
 
 use clock::Moment;
+use clock::Span;
 use serverlist::ServerList;
 use serverlist::expiry;
 use serverlist::form;
 ghost use mathlib.Core.Path.{_≡_};
+ghost use Rattle.rdnss.specs.Options.{isRouterLifetime};
 ghost use Rattle.rdnss.specs.ServerList.{answer, serverList};
+
+// The most seconds that a router's lifetime may have.
+pub const MOST_LIFETIME: u32 = 65535;
 
 // The refusal number, 0 for none, and the new list; with a refusal, the list as it was handed in.
 #[repr(C)]
@@ -26,17 +31,25 @@ fn refused(refusal: u32, list: ServerList) -> ServerListAnswer
     }
 }
 
+// Whether a span is the lifetime of a router: refusal 15 is for those that are not.
+fn is_router_lifetime(router: Span) -> bool
+    ensures { λ r. ⌜ r ≡ isRouterLifetime router ⌝ }
+{
+    router.0 <= MOST_LIFETIME
+}
+
 // The list after a router's option area has come in at a clock. Refused are, in this order: a list
-// that is not sound (31), a clock above clock::LATEST or behind the list's (15), and an area of more
-// than 1,500 octets, or with an option of Length 0 or past the end (16): the area is tested whole
-// before anything is applied.
+// that is not sound (31), a clock above clock::LATEST or behind the list's (15), a router lifetime
+// above 65,535 (15), and an area of more than 1,500 octets, or with an option of Length 0 or past the
+// end (16): the area is tested whole before anything is applied.
 #[no_mangle]
 pub extern "C" fn jespurla_server_list(
     list: ServerList,
     clock: Moment,
+    router: Span,
     area: &[u8],
 ) -> ServerListAnswer
-    ensures { λ r. ⌜ r ≡ serverList list clock (now (area .entry)) ⌝ }
+    ensures { λ r. ⌜ r ≡ serverList list clock router (now (area .entry)) ⌝ }
 {
     if !form::is_sound(list) {
         return refused(31, list);
@@ -44,11 +57,14 @@ pub extern "C" fn jespurla_server_list(
     if !form::is_timely(list, clock) {
         return refused(15, list);
     }
+    if !is_router_lifetime(router) {
+        return refused(15, list);
+    }
     if !area::is_area(area) {
         return refused(16, list);
     }
     let unexpired = expiry::without_expired(list, clock);
-    let applied = area::apply_all(unexpired, area, clock);
+    let applied = area::apply_all(unexpired, area, clock, router);
     ServerListAnswer {
         refusal: 0,
         list: applied,

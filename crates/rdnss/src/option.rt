@@ -1,6 +1,7 @@
 // One option of the area, applied to the list.
 use clock::Moment;
 use clock::Span;
+use entries::Moments;
 use serverlist::Address6;
 use serverlist::ServerList;
 use serverlist::entry;
@@ -12,12 +13,13 @@ ghost use mathlib.Core.Bool.{false};
 ghost use mathlib.Core.List.{foldl};
 ghost use Prim.Native.Nat.{_+_, _-_, _*_, _/_, _≤_, _<_, min};
 ghost use lib.ListN.{length, take, drop};
-ghost use Rattle.serverlist.specs.Entries.{marking, roomed, inserted, namedAll, removed};
+ghost use Rattle.entries.specs.Entries.{marking, roomed, inserted, namedAll, removed};
+ghost use Rattle.entries.specs.Places.{InPlaces, Ready, Holds, marks};
 ghost use Rattle.serverlist.specs.Servers.{servers, held, packed};
-ghost use Rattle.serverlist.specs.Places.{InPlaces};
-ghost use Rattle.rdnss.specs.Area.{isActing, counted, addressesFrom};
-ghost use Rattle.rdnss.specs.ServerList.{optionApplied};
-ghost use Rattle.rdnss.specs.Places.{Ready, Holds, marks, OptionFits};
+ghost use Rattle.serverlist.specs.Places.{serverPlaces};
+ghost use Rattle.rdnss.specs.Area.{isActing, counted, addressesFrom, namedBy};
+ghost use Rattle.rdnss.specs.Options.{optionApplied};
+ghost use Rattle.rdnss.specs.Places.{OptionFits};
 
 // The Type of an option that names DNS servers.
 const TYPE: u8 = 25;
@@ -33,9 +35,9 @@ pub(crate) struct Placed {
 }
 
 // A new entry, behind the option's own. A full list gives one up for it, which may be one of these.
-fn insert(p: Placed, a: Address6, x: Moment) -> Placed
-    requires { ⌜ Ready p ⌝ }
-    ensures { λ r. ⌜ Holds (p .list .clock) (inserted (marking servers .entry a x) (roomed (marking servers) (marks p))) r ⌝ }
+fn insert(p: Placed, a: Address6, x: Moments) -> Placed
+    requires { ⌜ Ready serverPlaces (p .list) (p .own) ⌝ }
+    ensures { λ r. ⌜ Holds serverPlaces (p .list .clock) (inserted (marking servers .entry a x) (roomed (marking servers) (marks serverPlaces (p .list) (p .own)))) (r .list) (r .own) ⌝ }
 {
     let l = p.list;
     let own = p.own;
@@ -75,7 +77,7 @@ fn address_at(v: &[u8], at: usize) -> Address6
 
 // The first n addresses of an option, withdrawn.
 fn withdraw_all(l: ServerList, v: &[u8], n: usize) -> ServerList
-    requires { ⌜ InPlaces l × (8 + 16 * n ≤ length (now v)) ⌝ }
+    requires { ⌜ InPlaces serverPlaces l × (8 + 16 * n ≤ length (now v)) ⌝ }
     ensures { λ r. ⌜ r ≡ packed (l .clock) (foldl (λ h a. removed servers a h) (held l) (addressesFrom n (drop 8 (now (v .entry))))) ⌝ }
 {
     let mut m = l;
@@ -92,8 +94,8 @@ fn withdraw_all(l: ServerList, v: &[u8], n: usize) -> ServerList
 }
 
 // The first n addresses of an option, renewed where they stand or inserted.
-fn name_all(l: ServerList, v: &[u8], n: usize, x: Moment) -> ServerList
-    requires { ⌜ InPlaces l × (8 + 16 * n ≤ length (now v)) ⌝ }
+fn name_all(l: ServerList, v: &[u8], n: usize, x: Moments) -> ServerList
+    requires { ⌜ InPlaces serverPlaces l × (8 + 16 * n ≤ length (now v)) ⌝ }
     ensures { λ r. ⌜ r ≡ packed (l .clock) (namedAll servers false x (addressesFrom n (drop 8 (now (v .entry)))) (held l)) ⌝ }
 {
     let mut m = l;
@@ -139,18 +141,18 @@ fn address_count(units: usize) -> usize
 }
 
 // One option, as the part of the area where it starts.
-pub(crate) fn apply(l: ServerList, option: &[u8], clock: Moment) -> ServerList
-    requires { ⌜ InPlaces l × OptionFits (now option) ⌝ }
-    ensures { λ r. ⌜ r ≡ packed (l .clock) (optionApplied clock (held l) (now (option .entry))) ⌝ }
+pub(crate) fn apply(l: ServerList, option: &[u8], clock: Moment, router: Span) -> ServerList
+    requires { ⌜ InPlaces serverPlaces l × OptionFits (now option) ⌝ }
+    ensures { λ r. ⌜ r ≡ packed (l .clock) (optionApplied clock router servers namedBy (held l) (now (option .entry))) ⌝ }
 {
     if !is_acting(option) {
         return l;
     }
     let n = address_count(option[1] as usize);
     let lifetime = Span(octets::number::u32_at(option, 4));
-    if lifetime.0 == 0 {
+    if entries::withdraws(lifetime, router) {
         return withdraw_all(l, option, n);
     }
-    let x = clock::expiry_after(clock, lifetime);
+    let x = entries::moments_after(clock, lifetime, router);
     name_all(l, option, n, x)
 }

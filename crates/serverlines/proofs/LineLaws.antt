@@ -9,39 +9,30 @@ use lib.Dec.{leb, eqb}
 use borrow.Author.Tests.{leb-true, leb-false}
 use lib.ListN.{length, take, drop, getD, length-append}
 use lib.Seq.{take-suc, take-all, take-at, length-take-le}
-use Rattle.clock.specs.Clock.{isNever, never}
-use Rattle.clock.specs.declared.Moment.{Moment}
+use Rattle.entries.specs.Entries.{expires}
 use Rattle.rdnss.specs.declared.ServerListAnswer.{ServerListAnswer}
-use Rattle.serverlist.specs.Servers.{held, expires}
+use Rattle.serverlist.specs.Servers.{servers, held}
 use Rattle.serverlist.specs.declared.Server.{Server}
 use Rattle.serverlist.specs.declared.ServerList.{ServerList}
 use Rattle.octets.specs.Write.{put, laidAt, nextAt, laid, Laid, Wrote, WroteIf}
 use Rattle.octets.proofs.WriteLaws.{nothing, then, put-front, length-put, wrote-length}
 use Rattle.text.specs.Text.{ascii, decimal, hex}
 use Rattle.text.proofs.TextLaws.{decimal-is-short, two-an-octet}
-use Rattle.serverlines.specs.Lines.{line, expiryText, serverLine, serverLines, listLines, refusalLine, answerLines}
+use Rattle.serverlines.specs.Lines.{line, serverLine, serverLines, listLines, refusalLine, answerLines}
 use Rattle.serverlines.specs.Inner.{PutWithin}
-
-pub expiry-never : (m : Moment) → isNever m ≡ true → expiryText m ≡ ascii "never"
-unfolding expiryText
-expiry-never m h = rw h
-
-pub expiry-seconds : (m : Moment) → isNever m ≡ false → expiryText m ≡ decimal (m .0)
-unfolding expiryText
-expiry-seconds m h = rw h
 
 -- a number of 64 bits has at most twenty digits
 pub twenty : (n : ℕ) → n < 18446744073709551616 → length (decimal n) ≤ 20
 twenty n h = decimal-is-short 20 n (omega arith) (omega arith)
 
-pub server-short : (e : Server) → length (e .address .octets) ≡ 16 → length (expiryText (expires e)) ≤ 20 → length (serverLine e) ≤ 54
+pub server-short : (e : Server) → length (e .address .octets) ≡ 16 → length (decimal (expires servers e .0)) ≤ 20 → length (serverLine e) ≤ 54
 unfolding serverLine ascii
 server-short e n h =
     let d : length (hex (e .address .octets)) ≡ 32 = two-an-octet (e .address .octets) ∙ ap (λ (k : ℕ). 2 * k) n in
     let a : List ℕ = hex (e .address .octets) ++ ascii " " in
     let s : length a ≡ 33 = length-append (hex (e .address .octets)) (ascii " ") ∙ omega arith in
-    let t : length (a ++ expiryText (expires e)) ≡ 33 + length (expiryText (expires e)) = length-append a (expiryText (expires e)) ∙ omega arith in
-    let u : length ((a ++ expiryText (expires e)) ++ ascii "\n") ≡ length (a ++ expiryText (expires e)) + 1 = length-append (a ++ expiryText (expires e)) (ascii "\n") in
+    let t : length (a ++ decimal (expires servers e .0)) ≡ 33 + length (decimal (expires servers e .0)) = length-append a (decimal (expires servers e .0)) ∙ omega arith in
+    let u : length ((a ++ decimal (expires servers e .0)) ++ ascii "\n") ≡ length (a ++ decimal (expires servers e .0)) + 1 = length-append (a ++ decimal (expires servers e .0)) (ascii "\n") in
     omega arith
 
 -- a word, a number and a line end

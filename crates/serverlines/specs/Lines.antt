@@ -4,11 +4,11 @@ use mathlib.Core.List.{List, [], _∷_, _++_}
 use Prim.Native.Nat.{ℕ}
 use lib.Dec.{eqb}
 use lib.ListN.{length}
-use Rattle.clock.specs.Clock.{moment, isNever}
-use Rattle.clock.specs.declared.Moment.{Moment}
+use Rattle.clock.specs.Clock.{moment, span}
+use Rattle.entries.specs.Entries.{expires}
 use Rattle.rdnss.specs.declared.ServerListAnswer.{ServerListAnswer}
 use Rattle.rdnss.specs.ServerList.{serverList}
-use Rattle.serverlist.specs.Servers.{held, packed, expires}
+use Rattle.serverlist.specs.Servers.{servers, held, packed}
 use Rattle.serverlist.specs.declared.Server.{Server}
 use Rattle.text.specs.Text.{ascii, decimal, hex}
 
@@ -16,13 +16,9 @@ use Rattle.text.specs.Text.{ascii, decimal, hex}
 abbrev pub line : List ℕ → List ℕ
 line text = text ++ ascii "\n"
 
--- An expiry is a word where it is never, and else its seconds.
-unfoldable pub expiryText : Moment → List ℕ
-expiryText m = cond (isNever m) (ascii "never") (decimal (m .0))
-
--- A server: the digits of its address, a blank, and its expiry.
+-- A server: the digits of its address, a blank, and the seconds of the moment at which it expires, the earlier of its two.
 unfoldable pub serverLine : Server → List ℕ
-serverLine e = line ((hex (e .address .octets) ++ ascii " ") ++ expiryText (expires e))
+serverLine e = line ((hex (e .address .octets) ++ ascii " ") ++ decimal (expires servers e .0))
 
 -- A line for each server, in their order.
 unfoldable pub serverLines : List Server → List ℕ
@@ -41,6 +37,6 @@ refusalLine refusal = line (ascii "refused " ++ decimal refusal)
 unfoldable pub answerLines : ServerListAnswer → List ℕ
 answerLines answer = cond (eqb (answer .refusal) 0) (listLines (held (answer .list))) (refusalLine (answer .refusal))
 
--- What the program `servers` prints for its input: the answer to it as an area, on a list without servers at clock 0.
+-- What the program `servers` prints for its input: the answer to it as an area, on a list without servers at clock 0, from a router with a lifetime of 1,800 seconds.
 unfoldable pub areaLines : List ℕ → List ℕ
-areaLines area = answerLines (serverList (packed (moment 0) []) (moment 0) area)
+areaLines area = answerLines (serverList (packed (moment 0) []) (moment 0) (span 1800) area)

@@ -1,5 +1,6 @@
 // The answer of the server list call as lines of text, as the program `servers` prints it.
 use clock::Moment;
+use clock::Span;
 use rdnss::ServerListAnswer;
 use serverlist::PLACES;
 use serverlist::Server;
@@ -9,33 +10,26 @@ ghost use Prim.Native.Nat.{_*_, _≤_, min};
 ghost use mathlib.Core.Path.{_≡_};
 ghost use lib.ListN.{take};
 ghost use Rattle.octets.specs.Write.{Laid};
-ghost use Rattle.serverlist.specs.Entries.{places};
+ghost use Rattle.entries.specs.Entries.{places};
 ghost use Rattle.serverlist.specs.Servers.{held};
-ghost use Rattle.serverlines.specs.Lines.{expiryText, serverLine, serverLines, listLines, refusalLine, answerLines, areaLines};
+ghost use Rattle.serverlines.specs.Lines.{serverLine, serverLines, listLines, refusalLine, answerLines, areaLines};
 ghost use Rattle.serverlines.specs.Inner.{PutWithin};
+
+// The lifetime of the router whose area the program applies.
+const ROUTER_LIFETIME: u32 = 1800;
 
 // Room for every answer: the line with the count, and a line for each of eight servers.
 pub const MOST: usize = 512;
-
-// An expiry: never, or its seconds.
-fn put_expiry(buf: &mut [u8], at: usize, x: Moment) -> usize
-    ensures { λ r. ⌜ PutWithin 20 (now (buf .entry)) at (expiryText x) (now (buf .exit)) r ⌝ }
-{
-    if x.0 == clock::NEVER {
-        return octets::write::put_octets(buf, at, b"never");
-    }
-    text::decimal::put_decimal(buf, at, x.0)
-}
 
 // A server's line.
 fn put_server(buf: &mut [u8], at: usize, e: Server) -> usize
     ensures { λ r. ⌜ PutWithin 54 (now (buf .entry)) at (serverLine e) (now (buf .exit)) r ⌝ }
 {
     let a = e.address;
-    let x = entry::expiry_of(e);
+    let x = entry::expires(e);
     let blank = text::hex::put_hex(buf, at, &a.octets);
-    let expiry = octets::write::put_octet(buf, blank, b' ');
-    let end = put_expiry(buf, expiry, x);
+    let seconds = octets::write::put_octet(buf, blank, b' ');
+    let end = text::decimal::put_decimal(buf, seconds, x.0);
     octets::write::put_octet(buf, end, b'\n')
 }
 
@@ -103,11 +97,11 @@ pub fn put_answer(buf: &mut [u8], at: usize, answer: ServerListAnswer) -> usize
 }
 
 // What the program prints for an area: the lines of the answer to it, on a list without servers at
-// clock 0.
+// clock 0, from a router with a lifetime of half an hour.
 pub fn put_area(buf: &mut [u8], area: &[u8]) -> usize
     ensures { λ r. ⌜ Laid (now (buf .entry)) 0 (areaLines (now (area .entry))) (now (buf .exit)) r ⌝ }
 {
     let empty = serverlist::empty(Moment(0));
-    let answer = rdnss::jespurla_server_list(empty, Moment(0), area);
+    let answer = rdnss::jespurla_server_list(empty, Moment(0), Span(ROUTER_LIFETIME), area);
     put_answer(buf, 0, answer)
 }

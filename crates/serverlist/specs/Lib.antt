@@ -1,4 +1,3 @@
--- The definitions that the contracts cite. Entries and Servers are those of the promises, and Places is how functions speak of the list's places.
-pub mod Entries
+-- The definitions that the contracts cite. Servers are those of the promises, and Places is how functions speak of the list's places.
 pub mod Servers
 pub mod Places

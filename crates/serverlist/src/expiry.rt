@@ -8,15 +8,14 @@ ghost use mathlib.Core.Path.{_≡_};
 ghost use mathlib.Core.Bool.{_&&_, cond};
 ghost use Prim.Native.Nat.{_≤_};
 ghost use lib.Dec.{ltb};
-ghost use Rattle.clock.specs.Clock.{isPast};
-ghost use Rattle.serverlist.specs.Entries.{places, oneOf};
-ghost use Rattle.serverlist.specs.Servers.{held, packed, blank, expires, unexpired};
+ghost use Rattle.entries.specs.Entries.{places, oneOf, isExpired, unexpired};
+ghost use Rattle.serverlist.specs.Servers.{servers, held, packed, blank};
 ghost use Rattle.serverlist.specs.Places.{atClock};
 
 // The entries that have not expired before a new clock, each put behind those found before it.
 fn filtered(l: ServerList, clock: Moment) -> ServerList
     requires { ⌜ l .count ≤ places ⌝ }
-    ensures { λ r. ⌜ r ≡ packed clock (unexpired clock (held l)) ⌝ }
+    ensures { λ r. ⌜ r ≡ packed clock (unexpired servers clock (held l)) ⌝ }
 {
     let n = l.count;
     let mut out = crate::empty(clock);
@@ -36,7 +35,7 @@ fn filtered(l: ServerList, clock: Moment) -> ServerList
 // Whether the entry at a place of a list of n entries has expired at a clock. A place past the count
 // holds none.
 fn is_held_expired(e: Server, at: usize, n: usize, clock: Moment) -> bool
-    ensures { λ r. ⌜ r ≡ (ltb at n && isPast (expires e) clock) ⌝ }
+    ensures { λ r. ⌜ r ≡ (ltb at n && isExpired servers clock e) ⌝ }
 {
     if n <= at {
         return false;
@@ -47,7 +46,7 @@ fn is_held_expired(e: Server, at: usize, n: usize, clock: Moment) -> bool
 // Whether one of the entries has expired at a clock.
 fn is_any_expired(l: ServerList, clock: Moment) -> bool
     requires { ⌜ l .count ≤ places ⌝ }
-    ensures { λ r. ⌜ r ≡ oneOf (λ e. isPast (expires e) clock) (held l) ⌝ }
+    ensures { λ r. ⌜ r ≡ oneOf (isExpired servers clock) (held l) ⌝ }
 {
     let n = l.count;
     if is_held_expired(l.entries[0], 0, n, clock) {

@@ -4,17 +4,15 @@ use crate::ServerList;
 use crate::entry;
 use clock::Moment;
 ghost use mathlib.Core.Path.{_≡_};
-ghost use mathlib.Core.Bool.{_&&_};
 ghost use Prim.Native.Nat.{_≤_};
-ghost use Rattle.clock.specs.Clock.{isExpiry};
-ghost use Rattle.serverlist.specs.Entries.{places, distinct, each};
-ghost use Rattle.serverlist.specs.Servers.{servers, held, expires, isSound, isTimely};
+ghost use Rattle.entries.specs.Entries.{places, isOrderly};
+ghost use Rattle.serverlist.specs.Servers.{servers, held, isSound, isTimely};
 
-// Whether no address stands twice and each expiry is a moment or never. Each entry, at i, is compared
-// with those behind it, at k.
+// Whether no address stands twice and each entry has moments. Each entry, at i, is compared with those
+// behind it, at k.
 fn is_orderly(l: ServerList) -> bool
     requires { ⌜ l .count ≤ places ⌝ }
-    ensures { λ r. ⌜ r ≡ (distinct servers (held l) && each (λ e. isExpiry (expires e)) (held l)) ⌝ }
+    ensures { λ r. ⌜ r ≡ isOrderly servers (held l) ⌝ }
 {
     let n = l.count;
     let mut i: usize = 0;
@@ -30,7 +28,7 @@ fn is_orderly(l: ServerList) -> bool
         } else {
             i += 1;
             k = i + 1;
-            if !clock::is_expiry(entry::expiry_of(e)) {
+            if !entries::are_moments(entry::moments_of(e)) {
                 return false;
             }
         }

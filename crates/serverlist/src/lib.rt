@@ -21,11 +21,13 @@ pub struct Address6 {
     pub octets: [u8; 16],
 }
 
-// A DNS server and when it expires: a moment, or clock::NEVER.
+// A DNS server and its moments: its expiry, a moment or clock::NEVER, and the router moment. It expires
+// at the earlier of the two.
 #[repr(C)]
 pub struct Server {
     pub address: Address6,
     pub expiry: Moment,
+    pub router: Moment,
 }
 
 // The servers, the preferred one first, and the last accepted clock. Places past the count are not

@@ -9,9 +9,9 @@ ghost use mathlib.Core.Bool.{_&&_};
 ghost use Prim.Native.Nat.{_+_, _≤_, min};
 ghost use lib.Dec.{ltb};
 ghost use lib.ListN.{take, drop};
-ghost use Rattle.serverlist.specs.Entries.{places, isAbout};
+ghost use Rattle.entries.specs.Entries.{places, isAbout};
 ghost use Rattle.serverlist.specs.Servers.{servers, held};
-ghost use Rattle.serverlist.specs.Places.{place};
+ghost use Rattle.entries.specs.Places.{place};
 
 // Whether the entry at a place of a list of n entries is about an address. A place past the count
 // holds none.

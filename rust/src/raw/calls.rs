@@ -6,7 +6,7 @@ use core::slice;
 
 use super::{
     Address, Answered, CheckAnswer, Dhcid, FindAnswer, FlagAnswer, Job, Lease, LeaseAnswer, Moment,
-    Name, NameAnswer, NewJob, RequestAnswer, SameAnswer, ServerListAnswer, ServerListState,
+    Name, NameAnswer, NewJob, RequestAnswer, SameAnswer, ServerListAnswer, ServerListState, Span,
     StepAnswer, Stepped, Zone,
 };
 
@@ -33,6 +33,7 @@ mod c {
         pub fn jespurla_server_list(
             list: ServerListState,
             clock: Moment,
+            router_lifetime: Span,
             area: *const u8,
             area_length: usize,
         ) -> ServerListAnswer;
@@ -204,10 +205,15 @@ pub fn name_option_answer(
 /// refused 31 before anything else, and with a clock that may be above [`Moment::LATEST`], which is
 /// refused 15.
 #[inline]
-pub fn server_list(list: &ServerListState, clock: Moment, area: &[u8]) -> ServerListAnswer {
+pub fn server_list(
+    list: &ServerListState,
+    clock: Moment,
+    router_lifetime: Span,
+    area: &[u8],
+) -> ServerListAnswer {
     // SAFETY: the pointer comes from a slice that outlives the call, with that
     // slice's length; a slice's pointer is never null.
-    unsafe { c::jespurla_server_list(*list, clock, area.as_ptr(), area.len()) }
+    unsafe { c::jespurla_server_list(*list, clock, router_lifetime, area.as_ptr(), area.len()) }
 }
 
 /// [`crate::lease_query`] with records and a clock that may break their form. A clock above

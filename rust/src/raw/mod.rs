@@ -22,7 +22,7 @@ mod zone;
 pub use calls::*;
 pub use job::*;
 pub use lease::*;
-pub use moment::Moment;
+pub use moment::{Moment, Span};
 pub use name_option::*;
 pub use server_list::*;
 pub use zone::*;

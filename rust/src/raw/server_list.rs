@@ -2,14 +2,17 @@
 
 use super::Moment;
 
-/// A DNS server that a router announced: an IPv6 address and its expiry.
+/// A DNS server that a router announced: an IPv6 address and two moments. It is in use up to the
+/// earlier of the two, that moment included.
 #[repr(C)]
 #[derive(Clone, Copy, PartialEq, Eq, Debug, Default)]
 pub struct Server {
     /// The IPv6 address.
     pub address: [u8; 16],
-    /// A moment, or never.
+    /// Of the option that last named it: a moment, or never.
     pub expiry: Moment,
+    /// Of the router that sent this option: a moment.
+    pub router: Moment,
 }
 
 /// The DNS servers, the preferred one first, and the last accepted clock. The
@@ -32,6 +35,7 @@ impl ServerListState {
         entries: [Server {
             address: [0; 16],
             expiry: Moment(0),
+            router: Moment(0),
         }; 8],
         count: 0,
         clock: Moment(0),

@@ -2,7 +2,7 @@
 
 use std::hint::black_box;
 
-use jespurla::raw::{self, Moment};
+use jespurla::raw::{self, Moment, Span};
 use second::server_list::{update, Entry, ServerList};
 use second::NEVER;
 
@@ -10,6 +10,8 @@ use crate::common::twin::Twin;
 use crate::timer::Table;
 
 const NOW: u64 = 1_000;
+/// The lifetime of the router whose area it is.
+const ROUTER: u32 = 1_800;
 
 fn address(last: u8) -> [u8; 16] {
     let mut address = *b"\x20\x01\x0d\xb8\0\0\0\0\0\0\0\0\0\0\0\0";
@@ -27,7 +29,8 @@ fn option(lifetime: u32, servers: &[u8]) -> Vec<u8> {
     octets
 }
 
-/// The servers 1 to `count`, alternately with an end and without.
+/// The servers 1 to `count`, whose Lifetimes alternately end and don't, all of
+/// a router that still lives.
 fn list(count: usize) -> ServerList {
     let mut list = ServerList {
         count,
@@ -38,6 +41,7 @@ fn list(count: usize) -> ServerList {
         *entry = Entry {
             address: address(last),
             expiry: if last % 2 == 0 { NEVER } else { NOW + 50 },
+            router: NOW + u64::from(ROUTER),
         };
     }
     list
@@ -46,8 +50,8 @@ fn list(count: usize) -> ServerList {
 /// The second program's call behind the product's interface.
 #[allow(improper_ctypes_definitions)]
 #[inline(never)]
-extern "C" fn by_value(list: ServerList, now: u64, area: &[u8]) -> (u8, ServerList) {
-    match update(&list, now, area) {
+extern "C" fn by_value(list: ServerList, now: u64, router: u32, area: &[u8]) -> (u8, ServerList) {
+    match update(&list, now, router, area) {
         Ok(next) => (0, next),
         Err(refusal) => (refusal, list),
     }
@@ -56,9 +60,12 @@ extern "C" fn by_value(list: ServerList, now: u64, area: &[u8]) -> (u8, ServerLi
 fn case(rows: &mut Table, title: &str, count: usize, area: Vec<u8>) {
     let list = list(count);
     let given = list.twin();
-    let product = || raw::server_list(black_box(&given), Moment(NOW), black_box(&area));
-    let second = || by_value(*black_box(&list), NOW, black_box(&area));
-    let lent = || update(black_box(&list), NOW, black_box(&area));
+    let product = || {
+        let (given, area) = (black_box(&given), black_box(&area));
+        raw::server_list(given, Moment(NOW), Span(ROUTER), area)
+    };
+    let second = || by_value(*black_box(&list), NOW, ROUTER, black_box(&area));
+    let lent = || update(black_box(&list), NOW, ROUTER, black_box(&area));
     let expected = lent().expect("a sound list and area");
     let got = product();
     assert_eq!((got.refusal, got.list.twin()), (0, expected));

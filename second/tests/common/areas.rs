@@ -1,6 +1,6 @@
 //! Router option areas and the lists they are applied to.
 
-use second::server_list::{Entry, ServerList, PLACES};
+use second::server_list::{Entry, ServerList, PLACES, ROUTER_LIFETIME_MAX};
 use second::{LATEST_MOMENT, NEVER};
 
 use super::moments::{no_clock, no_moment};
@@ -25,15 +25,35 @@ pub fn pool(random: &mut Random) -> Vec<[u8; 16]> {
     pool
 }
 
-/// An expiry about the clock, at the clock's end or never.
-fn expiry(random: &mut Random, clock: u64) -> u64 {
-    match random.below(8) {
-        0 => NEVER,
-        1 => LATEST_MOMENT,
-        2 => clock.saturating_sub(1),
-        3 => clock,
-        4 => clock.saturating_sub(random.below(1_000) as u64),
+/// A moment about the clock or at the clock's end.
+fn moment(random: &mut Random, clock: u64) -> u64 {
+    match random.below(7) {
+        0 => LATEST_MOMENT,
+        1 => clock.saturating_sub(1),
+        2 => clock,
+        3 => clock.saturating_sub(random.below(1_000) as u64),
         _ => (clock + random.below(6) as u64).min(LATEST_MOMENT),
+    }
+}
+
+/// An expiry: a moment, at times never.
+fn expiry(random: &mut Random, clock: u64) -> u64 {
+    if random.one_in(6) {
+        NEVER
+    } else {
+        moment(random, clock)
+    }
+}
+
+/// A router moment right before, at or right after the expiry, or wherever an
+/// expiry may be.
+fn router_moment(random: &mut Random, clock: u64, expiry: u64) -> u64 {
+    let near = if expiry == NEVER { clock } else { expiry };
+    match random.below(8) {
+        0 => near.saturating_sub(1),
+        1 => near,
+        2 => (near + 1).min(LATEST_MOMENT),
+        _ => moment(random, clock),
     }
 }
 
@@ -64,6 +84,7 @@ pub fn list(random: &mut Random, pool: &[[u8; 16]]) -> ServerList {
     for (at, entry) in list.entries.iter_mut().enumerate() {
         entry.address = pool[(first + at) % pool.len()];
         entry.expiry = expiry(random, list.clock);
+        entry.router = router_moment(random, list.clock, entry.expiry);
     }
     if random.one_in(2) {
         litter(random, &mut list);
@@ -79,13 +100,14 @@ fn litter(random: &mut Random, list: &mut ServerList) {
         if random.one_in(2) {
             random.fill(&mut place.address);
             place.expiry = no_moment(random);
+            place.router = no_clock(random);
         }
     }
 }
 
-/// Breaks the list's form in one of the four ways.
+/// Breaks the list's form in one of the five ways.
 pub fn break_list(random: &mut Random, list: &mut ServerList) {
-    match random.below(4) {
+    match random.below(5) {
         0 => {
             let small = random.below(9);
             list.count = random.pick(&[
@@ -109,6 +131,10 @@ pub fn break_list(random: &mut Random, list: &mut ServerList) {
             list.count = list.count.clamp(1, PLACES);
             list.entries[random.below(list.count)].expiry = no_moment(random);
         }
+        3 => {
+            list.count = list.count.clamp(1, PLACES);
+            list.entries[random.below(list.count)].router = no_clock(random);
+        }
         _ => list.clock = no_clock(random),
     }
 }
@@ -125,6 +151,8 @@ pub fn next_clock(random: &mut Random, clock: u64) -> u64 {
         4..=20 => clock,
         21..=24 => later(random.below(5_000)),
         25..=27 => later(random.pick(&[59, 60, 61, 62])),
+        28 => later(random.pick(&[1_799, 1_800, 1_801])),
+        29 => later(random.pick(&[65_534, 65_535, 65_536])),
         _ => later(random.between(1, 6)),
     }
 }
@@ -137,6 +165,35 @@ fn lifetime(random: &mut Random) -> u32 {
         4 => random.pick(&[256, 65_536, 1 << 24, 1 << 31, u32::MAX - 1]),
         5 => random.next() as u32,
         _ => random.pick(&[1, 2, 3, 5, 60]),
+    }
+}
+
+/// A router lifetime that is taken: about the Lifetimes in use, longer, at the
+/// limits or anywhere.
+pub fn router_lifetime(random: &mut Random) -> u32 {
+    match random.below(16) {
+        0 => 0,
+        1 => 1,
+        2..=4 => ROUTER_LIFETIME_MAX,
+        5..=7 => 1_800,
+        8 => random.next() as u32 & ROUTER_LIFETIME_MAX,
+        9 => random.pick(&[255, 256, 32_767, 32_768, 65_534]),
+        10 => random.pick(&[59, 60, 61]),
+        _ => random.between(2, 6) as u32,
+    }
+}
+
+/// A router lifetime that is refused: right above the limit, at the end of its
+/// 32 bits, with low bits that alone would be taken, or any.
+pub fn no_router_lifetime(random: &mut Random) -> u32 {
+    let high = 1 << random.between(16, 31);
+    match random.below(8) {
+        0..=2 => ROUTER_LIFETIME_MAX + 1,
+        3 => ROUTER_LIFETIME_MAX + 2,
+        4 => u32::MAX,
+        5 => u32::MAX - 1,
+        6 => high | router_lifetime(random),
+        _ => high | random.next() as u32,
     }
 }
 

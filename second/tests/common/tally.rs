@@ -36,8 +36,10 @@ impl Tally {
     /// times, or all together less than `cases` times.
     pub fn report(&self, title: &str, cases: usize, each: usize) {
         println!("{title}: {} cases", self.cases);
+        let width = self.kinds.iter().map(|kind| kind.len()).max();
+        let width = width.unwrap_or(0);
         for (kind, count) in self.kinds.iter().zip(&self.counts) {
-            println!("  {kind:<36}{count:>9}");
+            println!("  {kind:<width$}{count:>9}");
         }
         assert!(self.cases >= cases, "too few cases");
         let rare = self.counts.iter().position(|&count| count < each);

@@ -45,6 +45,7 @@ impl Twin for server_list::ServerList {
             entries: self.entries.map(|entry| Server {
                 address: entry.address,
                 expiry: Moment(entry.expiry),
+                router: Moment(entry.router),
             }),
             count: self.count,
             clock: Moment(self.clock),
@@ -60,6 +61,7 @@ impl Twin for ServerListState {
             entries: self.entries.map(|server| server_list::Entry {
                 address: server.address,
                 expiry: server.expiry.0,
+                router: server.router.0,
             }),
             count: self.count,
             clock: self.clock.0,

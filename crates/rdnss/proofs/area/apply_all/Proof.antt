@@ -4,24 +4,25 @@ use mathlib.Core.Bool.{true}
 use mathlib.Core.List.{List, foldl}
 use native.Mathlib.Omega.{arith}
 use lib.ListN.{length, take, drop, getD}
-use Rattle.serverlist.specs.Servers.{held}
-use Rattle.serverlist.specs.Places.{InPlaces}
+use Rattle.serverlist.specs.Servers.{servers, held}
+use Rattle.entries.specs.Places.{InPlaces}
+use Rattle.serverlist.specs.Places.{serverPlaces}
 use Rattle.serverlist.specs.declared.Server.{Server}
-use Rattle.serverlist.proofs.PackLaws.{of-clock, of-held, in-places, held-length}
-use Rattle.rdnss.specs.Area.{isWhole, options}
-use Rattle.rdnss.specs.ServerList.{optionApplied}
+use Rattle.entries.proofs.PackLaws.{of-rest, of-held, in-places, held-length}
+use Rattle.rdnss.specs.Area.{isWhole, options, namedBy}
+use Rattle.rdnss.specs.Options.{optionApplied}
 use Rattle.rdnss.proofs.AreaLaws.{first-at, whole-at, options-at, part-at, part-fits, options-out}
 use Rattle.rdnss.proofs.CallLaws.{option-fits}
 use Rattle.rdnss.proofs.area.apply_all.Statement.{statement}
 use Rattle.rdnss.proofs.area.apply_all.Tie as tie
 
 abbrev Inv-loop : tie.InvT-loop
-Inv-loop area clock m₀ at₀ m at =
-    (at ≤ length area) × (isWhole 0 (drop at area) ≡ true) × InPlaces m × (m .clock ≡ m₀ .clock)
-    × (foldl (optionApplied clock) (held m₀) (options 0 area) ≡ foldl (optionApplied clock) (held m) (options 0 (drop at area)))
+Inv-loop area clock router m₀ at₀ m at =
+    (at ≤ length area) × (isWhole 0 (drop at area) ≡ true) × InPlaces serverPlaces m × (m .clock ≡ m₀ .clock)
+    × (foldl (optionApplied clock router servers namedBy) (held m₀) (options 0 area) ≡ foldl (optionApplied clock router servers namedBy) (held m) (options 0 (drop at area)))
 
 abbrev μ-loop : tie.MeasureT-loop
-μ-loop area clock m₀ at₀ m at = length area - at
+μ-loop area clock router m₀ at₀ m at = length area - at
 
 -- the option at hand has a Length, and all its octets
 first : (c : tie.In-loop Inv-loop μ-loop) →
@@ -80,15 +81,15 @@ loop-again c =
     let n = getD v (l .at + 1) 0 * 8 in
     let p = first t in
     let part = take (l .at + n - l .at) (drop (l .at) v) in
-    let d = optionApplied (s .clock) (held (l .m)) part in
+    let d = optionApplied (s .clock) (s .router) servers namedBy (held (l .m)) part in
     let e = c .apply .ensures in (
       p .1,
       sym (whole-at v (l .at) n refl (t .loop-test .taken) (p .0) (p .1)) ∙ l .inv .1,
-      in-places (l .m .clock) d e (option-fits (s .clock) (held (l .m)) part (omega (arith, held-length (l .inv .2), l .inv .2 .within))),
-      of-clock (l .m .clock) d e ∙ l .inv .3,
-      l .inv .4 ∙ ap (foldl (optionApplied (s .clock)) (held (l .m))) (options-at v (l .at) n refl (t .loop-test .taken) (p .0) (p .1))
-          ∙ ap (λ (r : List Server). foldl (optionApplied (s .clock)) r (options 0 (drop (l .at + n) v)))
-          (ap (optionApplied (s .clock) (held (l .m))) (sym (part-at v (l .at) n refl (t .loop-test .taken) (p .0) (p .1))) ∙ sym (of-held (l .m .clock) d e)),
+      in-places serverPlaces (l .m .clock) d e (option-fits (s .clock) (s .router) servers namedBy (held (l .m)) part (omega (arith, held-length serverPlaces (l .inv .2), l .inv .2 .within))),
+      of-rest serverPlaces (l .m .clock) d e ∙ l .inv .3,
+      l .inv .4 ∙ ap (foldl (optionApplied (s .clock) (s .router) servers namedBy) (held (l .m))) (options-at v (l .at) n refl (t .loop-test .taken) (p .0) (p .1))
+          ∙ ap (λ (r : List Server). foldl (optionApplied (s .clock) (s .router) servers namedBy) r (options 0 (drop (l .at + n) v)))
+          (ap (optionApplied (s .clock) (s .router) servers namedBy (held (l .m))) (sym (part-at v (l .at) n refl (t .loop-test .taken) (p .0) (p .1))) ∙ sym (of-held serverPlaces (l .m .clock) d e)),
     )
 
 returns : tie.Need-returns Inv-loop μ-loop

@@ -5,9 +5,12 @@ use Prim.Native.Nat.{ℕ}
 use mathlib.Core.List.{foldl}
 use mathlib.Core.Bool.{false}
 use lib.ListN.{drop, getD}
-use Rattle.serverlist.specs.Entries.{removed, namedAll}
+use Rattle.clock.specs.Clock.{span}
+use Rattle.entries.specs.Entries as entries
+use Rattle.entries.specs.Entries.{removed, namedAll}
 use Rattle.serverlist.specs.Servers.{servers, held, packed}
-use Rattle.rdnss.specs.Area.{addressesFrom}
+use Rattle.entries.specs.declared.Moments.{Moments}
+use Rattle.rdnss.specs.Area.{addressesFrom, addresses}
 use Rattle.rdnss.proofs.AreaLaws.{acting-length, count-fits}
 use Rattle.rdnss.proofs.CallLaws.{ignored, withdraws, names}
 use borrow.Author.Needs.{needs}
@@ -20,7 +23,7 @@ is-acting-requires c κs = search needs
 returns : tie.Need-returns
 returns c =
     let s = c .before .before .before in
-    s .pre .0 .packs ∙ ap (packed (s .args .l .clock)) (sym (ignored (s .args .clock) (held (s .args .l)) (s .args .option .now) (sym (c .before .is-acting .ensures) ∙ not-true _ (c .if1 .taken))))
+    s .pre .0 .packs ∙ ap (packed (s .args .l .clock)) (sym (ignored (s .args .clock) (s .args .router) (held (s .args .l)) (s .args .option .now) (sym (c .before .is-acting .ensures) ∙ not-true _ (c .if1 .taken))))
 
 shared-slice-read-address-count : tie.Need-shared-slice-read-address-count
 shared-slice-read-address-count c =
@@ -39,6 +42,9 @@ address-count-requires c κs =
 u32-at-requires : tie.Need-u32-at-requires
 u32-at-requires c κs = search needs
 
+withdraws-requires : tie.Need-withdraws-requires
+withdraws-requires c κs = search needs
+
 withdraw-all-requires : tie.Need-withdraw-all-requires
 withdraw-all-requires c κs =
     let s = c .before .before .before .before .before .before .before .before in
@@ -52,13 +58,14 @@ returns-2 c =
     let v = s .args .option .now in
     let l = s .args .l in
     let a = sym (c .before .before .before .before .before .before .before .is-acting .ensures) ∙ not-false _ (c .before .before .before .before .before .before .if1 .left) in
-    let z = sym (c .before .before .before .u32-at .ensures) ∙ c .before .if2 .taken in
+    let u = c .before .before .before .u32-at .ensures in
+    let z = sym (c .before .before .withdraws .ensures ∙ ap (λ (n : ℕ). entries.withdraws (span n) (s .args .router)) u) ∙ c .before .if2 .taken in
     c .withdraw-all .ensures
     ∙ ap (λ (n : ℕ). packed (l .clock) (foldl (λ t a. removed servers a t) (held l) (addressesFrom n (drop 8 v)))) (c .before .before .before .before .address-count .ensures)
-    ∙ ap (packed (l .clock)) (sym (withdraws (s .args .clock) (held l) v a z))
+    ∙ ap (packed (l .clock)) (sym (withdraws (s .args .clock) (s .args .router) (held l) v a z))
 
-expiry-after-requires : tie.Need-expiry-after-requires
-expiry-after-requires c κs = search needs
+moments-after-requires : tie.Need-moments-after-requires
+moments-after-requires c κs = search needs
 
 name-all-requires : tie.Need-name-all-requires
 name-all-requires c κs =
@@ -74,9 +81,11 @@ returns-3 c =
     let l = s .args .l in
     let a = sym (c .before .before .before .before .before .before .before .before .is-acting .ensures) ∙ not-false _ (c .before .before .before .before .before .before .before .if1 .left) in
     let u = c .before .before .before .before .u32-at .ensures in
+    let z = sym (c .before .before .before .withdraws .ensures ∙ ap (λ (n : ℕ). entries.withdraws (span n) (s .args .router)) u) ∙ c .before .before .if2 .left in
+    let m = c .before .moments-after .ensures ∙ ap (λ (n : ℕ). entries.momentsAfter (s .args .clock) (span n) (s .args .router)) u in
     c .name-all .ensures
-    ∙ ap (λ (n : ℕ). packed (l .clock) (namedAll servers false (c .before .expiry-after .result) (addressesFrom n (drop 8 v)) (held l))) (c .before .before .before .before .before .address-count .ensures)
-    ∙ ap (packed (l .clock)) (rw (c .before .expiry-after .ensures, u) (sym (names (s .args .clock) (held l) v a (λ z. c .before .before .if2 .left (u ∙ z)))))
+    ∙ ap (λ (n : ℕ). packed (l .clock) (namedAll servers false (c .before .moments-after .result) (addressesFrom n (drop 8 v)) (held l))) (c .before .before .before .before .before .address-count .ensures)
+    ∙ ap (packed (l .clock)) (ap (λ (x : Moments). namedAll servers false x (addresses v) (held l)) m ∙ sym (names (s .args .clock) (s .args .router) (held l) v a z))
 
 pub apply-spec : {M : Type 1} → statement M
 apply-spec =
@@ -88,8 +97,9 @@ apply-spec =
     cast-address-count
     address-count-requires
     u32-at-requires
+    withdraws-requires
     withdraw-all-requires
     returns-2
-    expiry-after-requires
+    moments-after-requires
     name-all-requires
     returns-3)

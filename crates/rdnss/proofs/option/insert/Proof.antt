@@ -1,8 +1,10 @@
 use Prim.Native.Nat.{_-_}
 use mathlib.Core.Path.{_∙_, ap}
-use Rattle.serverlist.specs.Places.{exchanged, insertedIn}
+use Rattle.entries.specs.Places.{exchanged, insertedIn}
+use Rattle.serverlist.specs.Servers.{servers}
+use Rattle.serverlist.specs.Places.{serverPlaces}
 use Rattle.serverlist.specs.declared.Server.{Server}
-use Rattle.rdnss.proofs.OptionLaws.{put-in-room, put-for-own, put-for-other}
+use Rattle.entries.proofs.InsertLaws.{put-in-room, put-for-own, put-for-other}
 use borrow.Author.Needs.{needs}
 use Rattle.rdnss.proofs.option.insert.Statement.{statement}
 use Rattle.rdnss.proofs.option.insert.Tie as tie
@@ -20,8 +22,8 @@ returns : tie.Need-returns
 returns c =
     let s = c .before .before .before .before .before in
     let p = s .args .p in
-    put-in-room p (s .pre) (s .args .a) (s .args .x) (c .before .if1 .taken)
-    (c .insert .ensures ∙ ap (λ (e : Server). insertedIn (p .own) e (p .list)) (c .before .before .before .about .ensures))
+    put-in-room servers serverPlaces (p .list) (p .own) (s .pre) (s .args .a) (s .args .x) (c .before .if1 .taken)
+    (c .insert .ensures ∙ ap (λ (e : Server). insertedIn serverPlaces (p .own) e (p .list)) (c .before .before .before .about .ensures))
 
 evict-place-requires : tie.Need-evict-place-requires
 evict-place-requires c κs = search needs
@@ -38,8 +40,8 @@ returns-2 c =
     let s = d .before .before .before .before .before in
     let p = s .args .p in
     let k = d .evict-place .result in
-    put-for-own p (s .pre) k (d .before .if1 .left) (d .evict-place .ensures) (s .args .a) (s .args .x) (c .before .if2 .taken)
-    (c .exchange .ensures ∙ ap (λ (e : Server). exchanged k (p .own - 1) e (p .list)) (d .before .before .before .about .ensures))
+    put-for-own servers serverPlaces (p .list) (p .own) (s .pre) k (d .before .if1 .left) (d .evict-place .ensures) (s .args .a) (s .args .x) (c .before .if2 .taken)
+    (c .exchange .ensures ∙ ap (λ (e : Server). exchanged serverPlaces k (p .own - 1) e (p .list)) (d .before .before .before .about .ensures))
 
 exchange-requires-2 : tie.Need-exchange-requires-2
 exchange-requires-2 c κs = search needs
@@ -53,8 +55,8 @@ returns-3 c =
     let s = d .before .before .before .before .before in
     let p = s .args .p in
     let k = d .evict-place .result in
-    put-for-other p (s .pre) k (d .before .if1 .left) (d .evict-place .ensures) (s .args .a) (s .args .x) (c .before .if2 .left)
-    (c .exchange2 .ensures ∙ ap (λ (e : Server). exchanged k (p .own) e (p .list)) (d .before .before .before .about .ensures))
+    put-for-other servers serverPlaces (p .list) (p .own) (s .pre) k (d .before .if1 .left) (d .evict-place .ensures) (s .args .a) (s .args .x) (c .before .if2 .left)
+    (c .exchange2 .ensures ∙ ap (λ (e : Server). exchanged serverPlaces k (p .own) e (p .list)) (d .before .before .before .about .ensures))
 
 pub insert-spec : {M : Type 1} → statement M
 insert-spec =

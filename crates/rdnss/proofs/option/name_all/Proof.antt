@@ -1,33 +1,34 @@
-use Prim.Native.Nat.{_≤_, _+_, _-_, _*_}
+use Prim.Native.Nat.{ℕ, _≤_, _+_, _-_, _*_}
 use mathlib.Core.Path.{_≡_, sym, _∙_, refl, ap}
 use mathlib.Core.Bool.{false}
 use mathlib.Core.List.{List, foldl, map}
 use native.Mathlib.Omega.{arith}
 use borrow.Author.Needs.{needs}
 use lib.ListN.{drop}
-use Rattle.serverlist.specs.Entries.{Marked, named, namedAll}
+use Rattle.entries.specs.Entries.{Marked, named, namedAll}
+use Rattle.entries.specs.Places.{Ready, Holds, marked, replaceAt}
 use Rattle.serverlist.specs.Servers.{servers, held, packed}
-use Rattle.serverlist.specs.Places.{marked, replaceAt}
+use Rattle.serverlist.specs.Places.{serverPlaces}
 use Rattle.serverlist.specs.declared.Server.{Server}
-use Rattle.serverlist.proofs.MarkLaws.{marked-items, marked-none}
-use Rattle.serverlist.proofs.PackLaws.{set-packed, held-at, full-length}
+use Rattle.serverlist.specs.declared.ServerList.{ServerList}
+use Rattle.entries.proofs.MarkLaws.{marked-items, marked-none}
+use Rattle.entries.proofs.PackLaws.{set-packed, held-at, full-length}
+use Rattle.entries.proofs.InsertLaws.{found, missing}
 use Rattle.rdnss.specs.Area.{addressesFrom}
-use Rattle.rdnss.specs.Places.{Ready, Holds}
-use Rattle.rdnss.specs.declared.option.Placed.{Placed}
-use Rattle.rdnss.proofs.OptionLaws.{found, missing, addresses-start, addresses-more, addresses-end}
+use Rattle.rdnss.proofs.AddressLaws.{addresses-start, addresses-more, addresses-end}
 use Rattle.rdnss.proofs.option.name_all.Statement.{statement}
 use Rattle.rdnss.proofs.option.name_all.Tie as tie
 
 abbrev Inv-loop : tie.InvT-loop
 Inv-loop v n x m₀ own₀ j₀ m own j =
-    (j ≤ n) × Ready (record { list = m; own = own }) × (m .clock ≡ m₀ .clock)
+    (j ≤ n) × Ready serverPlaces m own × (m .clock ≡ m₀ .clock)
     × (foldl (named servers false x) (marked 0 (held m₀)) (addressesFrom n (drop 8 v)) ≡ foldl (named servers false x) (marked own (held m)) (addressesFrom (n - j) (drop (8 + 16 * j) v)))
 
 abbrev μ-loop : tie.MeasureT-loop
 μ-loop v n x m₀ own₀ j₀ m own j = n - j
 
 loop-holds : tie.Need-loop-holds Inv-loop μ-loop
-loop-holds c = (omega arith, record { list = c .before .pre .0; own = omega arith }, refl, ap (foldl (named servers false (c .before .args .x)) (marked 0 (held (c .before .args .l)))) (addresses-start (c .before .args .n) (drop 8 (c .before .args .v .now))))
+loop-holds c = (omega arith, record { list = c .before .pre .0; among = omega arith }, refl, ap (foldl (named servers false (c .before .args .x)) (marked 0 (held (c .before .args .l)))) (addresses-start (c .before .args .n) (drop 8 (c .before .args .v .now))))
 
 mul-address-at : tie.Need-mul-address-at Inv-loop μ-loop
 mul-address-at c = search needs
@@ -48,7 +49,7 @@ mul-renew : tie.Need-mul-renew Inv-loop μ-loop
 mul-renew c = omega (arith, c .before .before .before .before .loop .inv .1 .list .within)
 
 element-copy-out-renew : tie.Need-element-copy-out-renew Inv-loop μ-loop
-element-copy-out-renew c = omega (arith, full-length (c .before .before .before .before .loop .inv .1 .list))
+element-copy-out-renew c = omega (arith, full-length serverPlaces (c .before .before .before .before .loop .inv .1 .list))
 
 renew-requires : tie.Need-renew-requires Inv-loop μ-loop
 renew-requires c κs = search needs
@@ -61,7 +62,7 @@ mul-e c =
 element-set-from-e : tie.Need-element-set-from-e Inv-loop μ-loop
 element-set-from-e c =
     let l = c .before .before .before .before .before .before .loop in
-    omega (arith, full-length (l .inv .1 .list), l .inv .1 .list .within)
+    omega (arith, full-length serverPlaces (l .inv .1 .list), l .inv .1 .list .within)
 
 loop-less : tie.Need-loop-less Inv-loop μ-loop
 loop-less c = omega arith
@@ -70,9 +71,9 @@ loop-less c = omega arith
 again : (c : tie.After-find Inv-loop μ-loop) →
     let s = c .before .before .before .before .before in
     let l = c .before .before .before .loop in
-    (q : Placed) → Holds (l .m .clock) (named servers false (s .args .x) (marked (l .own) (held (l .m))) (c .before .address-at .result)) q
-    → Inv-loop (s .args .v .now) (s .args .n) (s .args .x) (s .args .l) 0 0 (q .list) (q .own) (l .j + 1)
-again c q e =
+    (q : ServerList) (own : ℕ) → Holds serverPlaces (l .m .clock) (named servers false (s .args .x) (marked (l .own) (held (l .m))) (c .before .address-at .result)) q own
+    → Inv-loop (s .args .v .now) (s .args .n) (s .args .x) (s .args .l) 0 0 q own (l .j + 1)
+again c q own e =
     let s = c .before .before .before .before .before in
     let l = c .before .before .before .loop in
     let h = l .inv in
@@ -80,7 +81,7 @@ again c q e =
     let x = s .args .x in (
       omega arith,
       e .ready,
-      e .clocked ∙ h .2,
+      e .rested ∙ h .2,
       h .3 ∙ ap (foldl (named servers false x) (marked (l .own) (held (l .m)))) (addresses-more v (s .args .n) (l .j) (omega arith))
           ∙ ap (λ (t : List (Marked Server)). foldl (named servers false x) t (addressesFrom (s .args .n - (l .j + 1)) (drop (8 + 16 * (l .j + 1)) v)))
           (ap (named servers false x (marked (l .own) (held (l .m)))) (sym (c .before .address-at .ensures)) ∙ sym (e .holds)),
@@ -94,8 +95,8 @@ loop-again c =
     let x = d .before .before .before .before .before .args .x in
     let k = d .find .result in
     let t = c .before .before .if1 .taken in
-    again d _ (found (record { list = l .m; own = l .own }) (l .inv .1) (d .before .address-at .result) x k (d .find .ensures) t
-    (set-packed i k _ t ∙ ap (λ (e : Server). packed (l .m .clock) (replaceAt k e (held (l .m)))) (c .renew .ensures ∙ ap (servers .renew x) (held-at (l .m) k _ t (omega (arith, full-length i, i .within))))))
+    again d _ _ (found servers serverPlaces (l .m) (l .own) (l .inv .1) (d .before .address-at .result) x k (d .find .ensures) t
+    (set-packed serverPlaces i k _ t ∙ ap (λ (e : Server). packed (l .m .clock) (replaceAt k e (held (l .m)))) (c .renew .ensures ∙ ap (servers .renew x) (held-at serverPlaces (l .m) k _ t (omega (arith, full-length serverPlaces i, i .within))))))
 
 insert-requires : tie.Need-insert-requires Inv-loop μ-loop
 insert-requires c κs = c .before .before .before .before .loop .inv .1
@@ -107,7 +108,7 @@ loop-again-2 : tie.Need-loop-again-2 Inv-loop μ-loop
 loop-again-2 c =
     let d = c .before .before .before in
     let l = d .before .before .before .loop in
-    again d _ (missing (record { list = l .m; own = l .own }) (l .inv .1) (d .before .address-at .result) (d .before .before .before .before .before .args .x) (d .find .result) (d .find .ensures) (c .before .before .if1 .left) (c .before .insert .ensures))
+    again d _ _ (missing servers serverPlaces (l .m) (l .own) (l .inv .1) (d .before .address-at .result) (d .before .before .before .before .before .args .x) (d .find .result) (d .find .ensures) (c .before .before .if1 .left) (c .before .insert .ensures))
 
 returns : tie.Need-returns Inv-loop μ-loop
 unfolding namedAll

@@ -4,21 +4,23 @@ use mathlib.Core.List.{List, foldl}
 use native.Mathlib.Omega.{arith}
 use borrow.Author.Needs.{needs}
 use lib.ListN.{drop}
-use Rattle.serverlist.specs.Entries.{removed}
+use Rattle.entries.specs.Entries.{removed}
 use Rattle.serverlist.specs.Servers.{servers, held, packed}
-use Rattle.serverlist.specs.Places.{InPlaces}
+use Rattle.entries.specs.Places.{InPlaces}
+use Rattle.serverlist.specs.Places.{serverPlaces}
 use Rattle.serverlist.specs.declared.Address6.{Address6}
 use Rattle.serverlist.specs.declared.Server.{Server}
 use Rattle.serverlist.specs.declared.ServerList.{ServerList}
-use Rattle.serverlist.proofs.PackLaws.{without-packed}
+use Rattle.entries.proofs.PackLaws.{without-packed}
+use Rattle.entries.proofs.InsertLaws.{withdrawn, nothing-to-withdraw, withdrawn-places, withdrawn-held, withdrawn-rest}
 use Rattle.rdnss.specs.Area.{addressesFrom}
-use Rattle.rdnss.proofs.OptionLaws.{addresses-start, addresses-more, addresses-end, withdrawn, nothing-to-withdraw, withdrawn-places, withdrawn-held, withdrawn-clock}
+use Rattle.rdnss.proofs.AddressLaws.{addresses-start, addresses-more, addresses-end}
 use Rattle.rdnss.proofs.option.withdraw_all.Statement.{statement}
 use Rattle.rdnss.proofs.option.withdraw_all.Tie as tie
 
 abbrev Inv-loop : tie.InvT-loop
 Inv-loop v n m₀ j₀ m j =
-    (j ≤ n) × InPlaces m × (m .clock ≡ m₀ .clock)
+    (j ≤ n) × InPlaces serverPlaces m × (m .clock ≡ m₀ .clock)
     × (foldl (λ h a. removed servers a h) (held m₀) (addressesFrom n (drop 8 v)) ≡ foldl (λ h a. removed servers a h) (held m) (addressesFrom (n - j) (drop (8 + 16 * j) v)))
 
 abbrev μ-loop : tie.MeasureT-loop
@@ -60,18 +62,18 @@ again c r e =
     let h = l .inv in
     let v = s .args .v .now in (
       omega arith,
-      withdrawn-places (h .1) _ e,
-      withdrawn-clock (h .1) _ e ∙ h .2,
+      withdrawn-places servers serverPlaces (h .1) _ e,
+      withdrawn-rest servers serverPlaces (h .1) _ e ∙ h .2,
       h .3 ∙ ap (foldl (λ t a. removed servers a t) (held (l .m))) (addresses-more v (s .args .n) (l .j) (omega arith))
           ∙ ap (λ (t : List Server). foldl (λ t a. removed servers a t) t (addressesFrom (s .args .n - (l .j + 1)) (drop (8 + 16 * (l .j + 1)) v)))
-          (ap (λ (a : Address6). removed servers a (held (l .m))) (sym (c .before .before .address-at .ensures)) ∙ sym (withdrawn-held (h .1) _ e)),
+          (ap (λ (a : Address6). removed servers a (held (l .m))) (sym (c .before .before .address-at .ensures)) ∙ sym (withdrawn-held servers serverPlaces (h .1) _ e)),
     )
 
 loop-again : tie.Need-loop-again Inv-loop μ-loop
 loop-again c =
     let d = c .before .before in
     let m = d .before .before .before .before .loop .m in
-    again d _ (withdrawn m (d .before .before .before .before .loop .inv .1) (d .before .before .address-at .result) (d .before .find .result) (d .before .find .ensures) (c .remove .ensures ∙ without-packed (d .before .before .before .before .loop .inv .1) (d .before .find .result) (c .before .if1 .taken)))
+    again d _ (withdrawn servers serverPlaces m (d .before .before .before .before .loop .inv .1) (d .before .before .address-at .result) (d .before .find .result) (d .before .find .ensures) (c .remove .ensures ∙ without-packed serverPlaces (d .before .before .before .before .loop .inv .1) (d .before .find .result) (c .before .if1 .taken)))
 
 loop-less-2 : tie.Need-loop-less-2 Inv-loop μ-loop
 loop-less-2 c = omega arith
@@ -80,7 +82,7 @@ loop-again-2 : tie.Need-loop-again-2 Inv-loop μ-loop
 loop-again-2 c =
     let d = c .before in
     let m = d .before .before .before .before .loop .m in
-    again d _ (nothing-to-withdraw m (d .before .before .before .before .loop .inv .1) (d .before .before .address-at .result) (d .before .find .result) (d .before .find .ensures) (c .if1 .left))
+    again d _ (nothing-to-withdraw servers serverPlaces m (d .before .before .before .before .loop .inv .1) (d .before .before .address-at .result) (d .before .find .result) (d .before .find .ensures) (c .if1 .left))
 
 returns : tie.Need-returns Inv-loop μ-loop
 returns c =

@@ -3,8 +3,9 @@ use native.Mathlib.Omega.{arith}
 use lib.ListN.{length, length-map}
 use lib.Seq.{length-take-le}
 use Rattle.serverlist.specs.Servers.{held, blank}
-use Rattle.serverlist.proofs.PackLaws.{packs}
-use Rattle.serverlist.proofs.ChainLaws.{eight}
+use Rattle.serverlist.specs.Places.{serverPlaces}
+use Rattle.entries.proofs.PackLaws.{packs}
+use Rattle.entries.proofs.ChainLaws.{eight}
 use borrow.Author.Needs.{needs}
 use Rattle.serverlist.proofs.expiry.at_clock.Statement.{statement}
 use Rattle.serverlist.proofs.expiry.at_clock.Tie as tie
@@ -32,7 +33,7 @@ at-clock-spec =
     let s = c₁ .before .before in
     let l = s .args .t1 in
     let w : length (l .entries) ≡ 8 = simp length-map at (s .good .0 .1 .1 .0 .1 .0 .1) in
-    packs _ (s .args .clock) (held l)
+    packs serverPlaces _ (s .args .clock) (held l)
     (rw (c₁ .held-or-blank .ensures, c₂ .held-or-blank2 .ensures, c₃ .held-or-blank3 .ensures, c₄ .held-or-blank4 .ensures, c₅ .held-or-blank5 .ensures, c₆ .held-or-blank6 .ensures, c₇ .held-or-blank7 .ensures, c .held-or-blank8 .ensures)
     (eight blank (l .entries) (l .count) _ w (s .pre)))
     (sym (length-take-le (l .count) (l .entries) (omega (arith, s .pre))))

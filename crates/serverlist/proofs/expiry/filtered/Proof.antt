@@ -5,17 +5,18 @@ use native.Mathlib.Omega.{arith}
 use borrow.Author.Needs.{needs}
 use lib.ListN.{length, take, length-map}
 use lib.Seq.{length-take-le}
-use Rattle.clock.specs.Clock.{isPast}
-use Rattle.serverlist.specs.Entries.{keep}
-use Rattle.serverlist.specs.Servers.{packed, unexpired, expires}
+use Rattle.entries.specs.Entries.{keep, isExpired, unexpired}
+use Rattle.serverlist.specs.Servers.{servers, packed}
+use Rattle.serverlist.specs.Places.{serverPlaces}
 use Rattle.serverlist.specs.declared.Server.{Server}
-use Rattle.serverlist.proofs.EntryLaws.{keep-length, keep-yes, keep-no, keep-nil}
-use Rattle.serverlist.proofs.PackLaws.{of-count, push-packed}
+use Rattle.serverlist.specs.declared.ServerList.{ServerList}
+use Rattle.entries.proofs.EntryLaws.{keep-length, keep-yes, keep-no, keep-nil}
+use Rattle.entries.proofs.PackLaws.{push-packed}
 use Rattle.serverlist.proofs.expiry.filtered.Statement.{statement}
 use Rattle.serverlist.proofs.expiry.filtered.Tie as tie
 
 abbrev Inv-loop : tie.InvT-loop
-Inv-loop clock l n out₀ i₀ out i = (length (l .entries) ≡ 8) × (i ≤ n) × (out ≡ packed clock (unexpired clock (take i (l .entries)))) × (length (unexpired clock (take i (l .entries))) ≤ i)
+Inv-loop clock l n out₀ i₀ out i = (length (l .entries) ≡ 8) × (i ≤ n) × (out ≡ packed clock (unexpired servers clock (take i (l .entries)))) × (length (unexpired servers clock (take i (l .entries))) ≤ i)
 
 abbrev μ-loop : tie.MeasureT-loop
 μ-loop clock l n out₀ i₀ out i = n - i
@@ -41,17 +42,17 @@ is-expired-requires c κs = search needs
 mul-e-2 : tie.Need-mul-e-2 Inv-loop μ-loop
 mul-e-2 c =
     let l = c .before .before .before .before .loop in
-    omega (arith, of-count _ _ (l .inv .2))
+    omega (arith, ap (λ (m : ServerList). m .count) (l .inv .2))
 
 element-set-from-e : tie.Need-element-set-from-e Inv-loop μ-loop
 element-set-from-e c =
     let l = c .before .before .before .before .loop in
-    omega (arith, of-count _ _ (l .inv .2))
+    omega (arith, ap (λ (m : ServerList). m .count) (l .inv .2))
 
 add-out : tie.Need-add-out Inv-loop μ-loop
 add-out c =
     let l = c .before .before .before .before .loop in
-    omega (arith, of-count _ _ (l .inv .2))
+    omega (arith, ap (λ (m : ServerList). m .count) (l .inv .2))
 
 loop-less : tie.Need-loop-less Inv-loop μ-loop
 loop-less c = search needs
@@ -62,9 +63,9 @@ loop-again c =
     let l = c .before .before .before .before .loop in
     let h = l .inv in
     let x = a .t1 .entries in
-    let p : Server → Bool = λ e. not (isPast (expires e) (a .clock)) in
+    let p : Server → Bool = λ e. not (isExpired servers (a .clock) e) in
     let k = keep-yes p x (l .i) _ (omega arith) (sym (ap not (c .before .is-expired .ensures)) ∙ c .if1 .taken) in
-    (h .0, omega arith, push-packed (a .clock) (keep p (take (l .i) x)) (l .out) _ (h .2) (omega arith) ∙ ap (packed (a .clock)) (sym k), omega (arith, keep-length p (take (l .i + 1) x), length-take-le (l .i + 1) x (omega arith)))
+    (h .0, omega arith, push-packed serverPlaces (a .clock) (keep p (take (l .i) x)) (l .out) _ (h .2) (omega arith) ∙ ap (packed (a .clock)) (sym k), omega (arith, keep-length p (take (l .i + 1) x), length-take-le (l .i + 1) x (omega arith)))
 
 loop-less-2 : tie.Need-loop-less-2 Inv-loop μ-loop
 loop-less-2 c = search needs
@@ -75,7 +76,7 @@ loop-again-2 c =
     let l = c .before .before .before .before .loop in
     let h = l .inv in
     let x = a .t1 .entries in
-    let p : Server → Bool = λ e. not (isPast (expires e) (a .clock)) in
+    let p : Server → Bool = λ e. not (isExpired servers (a .clock) e) in
     let k = keep-no p x (l .i) _ (omega arith) (sym (ap not (c .before .is-expired .ensures)) ∙ c .if1 .left) in
     (h .0, omega arith, h .2 ∙ ap (packed (a .clock)) (sym k), omega (arith, keep-length p (take (l .i + 1) x), length-take-le (l .i + 1) x (omega arith)))
 

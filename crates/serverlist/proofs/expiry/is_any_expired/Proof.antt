@@ -2,25 +2,19 @@ use Prim.Native.Nat.{ℕ}
 use mathlib.Core.Path.{_∙_, sym}
 use native.Mathlib.Omega.{arith}
 use lib.ListN.{length-map}
-use mathlib.Core.Bool.{Bool}
-use Rattle.clock.specs.Clock.{isPast}
-use Rattle.clock.specs.declared.Moment.{Moment}
-use Rattle.serverlist.specs.Servers.{held, expires}
-use Rattle.serverlist.specs.Places.{place}
-use Rattle.serverlist.specs.declared.Server.{Server}
-use Rattle.serverlist.proofs.ChainLaws.{Missed, missed-none, miss, hit-one, missed-each}
+use Rattle.entries.specs.Entries.{isExpired}
+use Rattle.entries.specs.Places.{place}
+use Rattle.serverlist.specs.Servers.{servers, held}
+use Rattle.entries.proofs.ChainLaws.{Missed, missed-none, miss, hit-one, missed-each}
 use borrow.Author.Needs.{needs}
 use Rattle.serverlist.proofs.expiry.is_any_expired.Statement.{statement}
 use Rattle.serverlist.proofs.expiry.is_any_expired.Tie as tie
-
-abbrev expired : Moment → Server → Bool
-expired clock e = isPast (expires e) clock
 
 -- the first i places were looked at
 abbrev Seen : tie.Start → ℕ → Type 0
 Seen s i =
     let a = s .args in
-    Missed (expired (a .clock)) (a .t1 .entries) (a .t1 .count) (place (expired (a .clock)) (held (a .t1))) i
+    Missed (isExpired servers (a .clock)) (a .t1 .entries) (a .t1 .count) (place (isExpired servers (a .clock)) (held (a .t1))) i
 
 seen-0 : (s : tie.Start) → Seen s 0
 seen-0 s = missed-none (omega (arith, s .pre, simp length-map at (s .good .0 .1 .1 .0 .1 .0 .1)))

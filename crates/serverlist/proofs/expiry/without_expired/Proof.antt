@@ -1,7 +1,7 @@
 use mathlib.Core.Path.{_∙_, sym, ap}
-use Rattle.clock.specs.Clock.{isPast}
-use Rattle.serverlist.specs.Servers.{held, packed, expires}
-use Rattle.serverlist.proofs.ChainLaws.{keep-all}
+use Rattle.entries.specs.Entries.{isExpired}
+use Rattle.serverlist.specs.Servers.{servers, held, packed}
+use Rattle.entries.proofs.ChainLaws.{keep-all}
 use borrow.Author.Needs.{needs}
 use borrow.Author.Tests.{le-leb, lt-leb}
 use Rattle.serverlist.proofs.expiry.without_expired.Statement.{statement}
@@ -30,7 +30,7 @@ returns-3 : tie.Need-returns-3
 returns-3 c =
     let a = c .before .before .before .before .before .args in
     rw (le-leb (a .l .count) 8 (c .before .before .before .if1 .left))
-    (c .at-clock .ensures ∙ ap (packed (a .clock)) (sym (keep-all (λ e. isPast (expires e) (a .clock)) (held (a .l)) (sym (c .before .before .is-any-expired .ensures) ∙ c .before .if2 .left))))
+    (c .at-clock .ensures ∙ ap (packed (a .clock)) (sym (keep-all (isExpired servers (a .clock)) (held (a .l)) (sym (c .before .before .is-any-expired .ensures) ∙ c .before .if2 .left))))
 
 pub without-expired-spec : {M : Type 1} → statement M
 without-expired-spec =

@@ -1,7 +1,7 @@
 use mathlib.Core.Path.{sym, _∙_}
 use native.Mathlib.Omega.{arith}
 use borrow.Author.Tests.{not-true, not-false}
-use Rattle.serverlist.proofs.FormLaws.{too-many, no-moment, sound-if}
+use Rattle.serverlist.proofs.ServerLaws.{too-many, no-moment, sound-if}
 use borrow.Author.Needs.{needs}
 use Rattle.serverlist.proofs.form.is_sound.Statement.{statement}
 use Rattle.serverlist.proofs.form.is_sound.Tie as tie

@@ -2,10 +2,10 @@ use mathlib.Core.Path.{_≡_, _∙_, ap}
 use Prim.Native.Nat.{ℕ}
 use native.Mathlib.Omega.{arith}
 use lib.ListN.{length, take, length-map}
-use Rattle.serverlist.specs.Entries.{isAbout}
+use Rattle.entries.specs.Entries.{isAbout}
 use Rattle.serverlist.specs.Servers.{servers}
-use Rattle.serverlist.specs.Places.{place}
-use Rattle.serverlist.proofs.PlaceLaws.{take-within}
+use Rattle.entries.specs.Places.{place}
+use Rattle.entries.proofs.PlaceLaws.{take-within}
 use borrow.Author.Needs.{needs}
 use Rattle.serverlist.proofs.search.find.Statement.{statement}
 use Rattle.serverlist.proofs.search.find.Tie as tie

@@ -2,10 +2,10 @@ use Prim.Native.Nat.{ℕ}
 use mathlib.Core.Path.{_∙_, sym}
 use native.Mathlib.Omega.{arith}
 use lib.ListN.{take, length-map}
-use Rattle.serverlist.specs.Entries.{isAbout}
+use Rattle.entries.specs.Entries.{isAbout}
 use Rattle.serverlist.specs.Servers.{servers}
-use Rattle.serverlist.specs.Places.{place}
-use Rattle.serverlist.proofs.ChainLaws.{Missed, missed-none, miss, hit}
+use Rattle.entries.specs.Places.{place}
+use Rattle.entries.proofs.ChainLaws.{Missed, missed-none, miss, hit}
 use borrow.Author.Needs.{needs}
 use Rattle.serverlist.proofs.search.find_among.Statement.{statement}
 use Rattle.serverlist.proofs.search.find_among.Tie as tie

@@ -3,9 +3,10 @@ use Prim.Native.Nat.{_≤_, _-_}
 use native.Mathlib.Omega.{arith}
 use lib.ListN.{length, length-set, length-map}
 use borrow.Author.Needs.{needs}
-use Rattle.serverlist.specs.Places.{insertAt}
-use Rattle.serverlist.proofs.PlaceLaws.{back-more, back-out}
-use Rattle.serverlist.proofs.PackLaws.{same-list}
+use Rattle.serverlist.specs.Places.{serverPlaces}
+use Rattle.entries.specs.Places.{insertAt}
+use Rattle.entries.proofs.PlaceLaws.{back-more, back-out}
+use Rattle.entries.proofs.PackLaws.{same-list}
 use Rattle.serverlist.proofs.shift.moved_back.Statement.{statement}
 use Rattle.serverlist.proofs.shift.moved_back.Tie as tie
 
@@ -33,7 +34,7 @@ returns c =
     let w : length (a .l .entries) ≡ 8 = simp length-map at (s .good .0 .1 .1 .0 .1 .0 .1) in
     let e : l .i ≡ a .out = omega arith in
     let q : insertAt (a .out) (l .carried) (l .m .entries) ≡ insertAt (a .at) (a .e) (a .l .entries) = rw (← e) (h .5) in
-    same-list (back-out (a .l .entries) (l .m .entries) (a .at) (a .out) (l .carried) (a .e) (omega arith) (omega arith) (omega arith) q) (h .2) (h .1)
+    same-list serverPlaces (back-out (a .l .entries) (l .m .entries) (a .at) (a .out) (l .carried) (a .e) (omega arith) (omega arith) (omega arith) q) (h .2) (h .1)
 
 pub moved-back-spec : {M : Type 1} → statement M
 moved-back-spec =

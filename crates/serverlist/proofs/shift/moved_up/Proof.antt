@@ -3,9 +3,10 @@ use Prim.Native.Nat.{_≤_, _-_}
 use native.Mathlib.Omega.{arith}
 use lib.ListN.{length, length-set, length-map}
 use borrow.Author.Needs.{needs}
-use Rattle.serverlist.specs.Places.{removeAt}
-use Rattle.serverlist.proofs.PlaceLaws.{up-more, up-out}
-use Rattle.serverlist.proofs.PackLaws.{same-list}
+use Rattle.serverlist.specs.Places.{serverPlaces}
+use Rattle.entries.specs.Places.{removeAt}
+use Rattle.entries.proofs.PlaceLaws.{up-more, up-out}
+use Rattle.entries.proofs.PackLaws.{same-list}
 use Rattle.serverlist.proofs.shift.moved_up.Statement.{statement}
 use Rattle.serverlist.proofs.shift.moved_up.Tie as tie
 
@@ -31,7 +32,7 @@ returns c =
     let h = l .inv in
     let e : l .i ≡ a .at = omega arith in
     let q : removeAt (a .at) (l .m .entries) ≡ removeAt (a .out) (a .l .entries) = rw (← e) (h .5) in
-    same-list (up-out (a .l .entries) (l .m .entries) (a .out) (a .at) (a .e) (omega arith) q) (h .2) (h .1)
+    same-list serverPlaces (up-out (a .l .entries) (l .m .entries) (a .out) (a .at) (a .e) (omega arith) q) (h .2) (h .1)
 
 pub moved-up-spec : {M : Type 1} → statement M
 moved-up-spec =

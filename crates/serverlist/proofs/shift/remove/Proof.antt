@@ -2,7 +2,8 @@ use mathlib.Core.Path.{_∙_, ap}
 use Prim.Native.Nat.{_-_}
 use borrow.Author.Needs.{needs}
 use borrow.Author.Tests.{lt-ltb, le-ltb, lt-leb, le-leb}
-use Rattle.serverlist.specs.Places.{shifted, counting}
+use Rattle.serverlist.specs.Places.{serverPlaces}
+use Rattle.entries.specs.Places.{shifted, counting}
 use Rattle.serverlist.specs.declared.Server.{Server}
 use Rattle.serverlist.proofs.shift.remove.Statement.{statement}
 use Rattle.serverlist.proofs.shift.remove.Tie as tie
@@ -32,7 +33,7 @@ returns-3 c =
     let a = c .before .before .before .before .args in
     let last = a .l .count - 1 in
     rw (le-leb (a .l .count) 8 (c .before .before .before .if1 .left), lt-ltb (a .at) (a .l .count) (c .before .before .if2 .left))
-    (ap (counting last) (c .moved-up .ensures ∙ ap (λ (e : Server). shifted (a .at) last e (a .l)) (c .before .blank .ensures)))
+    (ap (counting serverPlaces last) (c .moved-up .ensures ∙ ap (λ (e : Server). shifted serverPlaces (a .at) last e (a .l)) (c .before .blank .ensures)))
 
 pub remove-spec : {M : Type 1} → statement M
 remove-spec =

@@ -7,12 +7,13 @@ use native.Mathlib.Omega.{arith}
 use lib.Dec.{ltb}
 use lib.ListN.{length, getD, length-map}
 use borrow.Author.Tests.{lt-ltb, le-ltb, ltb-true, ltb-false}
-use Rattle.serverlist.specs.Entries.{Kind, Marked, places, oneOf, isAbout, isHeld, removed, renewed, evicted, roomed, inserted, unmarked, marking, named, namedAll}
-use Rattle.serverlist.specs.Places.{place, insertAt, removeAt, replaceAt, evictPlace, marked}
-use Rattle.serverlist.proofs.EntryLaws.{cond-case, one-some}
+use Rattle.entries.specs.Entries.{Kind, Marked, places, oneOf, isAbout, isHeld, removed, renewed, evicted, roomed, inserted, unmarked, marking, named, namedAll, noLater}
+use Rattle.entries.specs.declared.Moments.{Moments}
+use Rattle.entries.specs.Places.{place, insertAt, removeAt, replaceAt, evictPlace, marked}
+use Rattle.entries.proofs.EntryLaws.{cond-case, one-some}
 
 -- the rules of a list, by places
-module _ {K X E : Type 0} (kind : Kind K X E) where
+module _ {K E : Type 0} (kind : Kind K E) where
   pub removed-at : (k : K) (l : List E) → removed kind k l ≡ removeAt (place (isAbout kind k) l) l
   unfolding removed place
   removed-at k [] = refl
@@ -38,7 +39,7 @@ module _ {K X E : Type 0} (kind : Kind K X E) where
   removed-le k [] = omega arith
   removed-le k (e ∷ l) = cond-case (λ (m : List E). length m ≤ suc (length l)) (isAbout kind k e) (λ _. omega arith) (λ _. omega (arith, removed-le k l))
 
-  pub renewed-at : (k : K) (x : X) (d : E) (l : List E) → place (isAbout kind k) l < length l
+  pub renewed-at : (k : K) (x : Moments) (d : E) (l : List E) → place (isAbout kind k) l < length l
       → renewed kind k x l ≡ replaceAt (place (isAbout kind k) l) (kind .renew x (getD l (place (isAbout kind k) l) d)) l
   unfolding renewed place
   renewed-at k x d [] h = absurd (omega arith)
@@ -51,7 +52,7 @@ module _ {K X E : Type 0} (kind : Kind K X E) where
       go true h i = refl
       go false h i = ap (λ (y : List E). e ∷ y) (i (omega arith))
 
-  pub renewed-length : (k : K) (x : X) (l : List E) → length (renewed kind k x l) ≡ length l
+  pub renewed-length : (k : K) (x : Moments) (l : List E) → length (renewed kind k x l) ≡ length l
   unfolding renewed
   renewed-length k x [] = refl
   renewed-length k x (e ∷ l) = cond-case (λ (m : List E). length m ≡ suc (length l)) (isAbout kind k e) (λ _. refl) (λ _. ap suc (renewed-length k x l))
@@ -59,7 +60,7 @@ module _ {K X E : Type 0} (kind : Kind K X E) where
   pub evicted-at : (l : List E) → evicted kind l ≡ removeAt (evictPlace kind l) l
   unfolding evicted evictPlace
   evicted-at [] = refl
-  evicted-at (e ∷ l) = go (oneOf (λ d. kind .noLater d e) l) (evicted-at l)
+  evicted-at (e ∷ l) = go (oneOf (λ d. noLater kind d e) l) (evicted-at l)
     where
       go : (b : Bool) → evicted kind l ≡ removeAt (evictPlace kind l) l
           → cond b (e ∷ evicted kind l) l ≡ removeAt (cond b (suc (evictPlace kind l)) 0) (e ∷ l)
@@ -71,8 +72,8 @@ module _ {K X E : Type 0} (kind : Kind K X E) where
   unfolding evicted
   evicted-length [] h = absurd (omega arith)
   evicted-length (e ∷ l) h =
-      cond-case (λ (m : List E). length m + 1 ≡ suc (length l)) (oneOf (λ d. kind .noLater d e) l)
-      (λ t. omega (arith, evicted-length l (one-some (λ d. kind .noLater d e) l t)))
+      cond-case (λ (m : List E). length m + 1 ≡ suc (length l)) (oneOf (λ d. noLater kind d e) l)
+      (λ t. omega (arith, evicted-length l (one-some (λ d. noLater kind d e) l t)))
       (λ _. omega arith)
 
   pub roomed-yes : (l : List E) → length l < places → roomed kind l ≡ l
@@ -135,8 +136,8 @@ module _ {E : Type 0} where
   inserted-marked e (suc n) [] h = absurd (omega arith)
   inserted-marked e (suc n) (d ∷ l) h = ap (λ (x : List (Marked E)). record { item = d; own = true } ∷ x) (inserted-marked e n l (omega arith))
 
-module _ {K X E : Type 0} (kind : Kind K X E) where
-  pub renewed-marked : (k : K) (x : X) (n : ℕ) (l : List E) → renewed (marking kind) k x (marked n l) ≡ marked n (renewed kind k x l)
+module _ {K E : Type 0} (kind : Kind K E) where
+  pub renewed-marked : (k : K) (x : Moments) (n : ℕ) (l : List E) → renewed (marking kind) k x (marked n l) ≡ marked n (renewed kind k x l)
   unfolding marked renewed
   renewed-marked k x zero [] = refl
   renewed-marked k x zero (e ∷ l) = go (isAbout kind k e) (renewed-marked k x zero l)
@@ -165,15 +166,15 @@ module _ {K X E : Type 0} (kind : Kind K X E) where
       go true h = refl
       go false h = ap (λ (y : List (Marked E)). unmarked e ∷ y) h
 
-  pub named-withdraws : (x : X) (k : K) (l : List (Marked E)) → named kind true x l k ≡ removed (marking kind) k l
+  pub named-withdraws : (x : Moments) (k : K) (l : List (Marked E)) → named kind true x l k ≡ removed (marking kind) k l
   unfolding named
   named-withdraws x k l = refl
 
-  pub named-present : (x : X) (k : K) (l : List (Marked E)) → isHeld (marking kind) k l ≡ true → named kind false x l k ≡ renewed (marking kind) k x l
+  pub named-present : (x : Moments) (k : K) (l : List (Marked E)) → isHeld (marking kind) k l ≡ true → named kind false x l k ≡ renewed (marking kind) k x l
   unfolding named
   named-present x k l h = rw h
 
-  pub named-absent : (x : X) (k : K) (l : List (Marked E)) → isHeld (marking kind) k l ≡ false → named kind false x l k ≡ inserted (marking kind .entry k x) (roomed (marking kind) l)
+  pub named-absent : (x : Moments) (k : K) (l : List (Marked E)) → isHeld (marking kind) k l ≡ false → named kind false x l k ≡ inserted (marking kind .entry k x) (roomed (marking kind) l)
   unfolding named
   named-absent x k l h = rw h
 
@@ -181,8 +182,8 @@ module _ {K X E : Type 0} (kind : Kind K X E) where
   unfolding evicted
   evicted-unmarked [] = refl
   evicted-unmarked (e ∷ l) =
-      ap (λ (b : Bool). cond b (unmarked e ∷ evicted (marking kind) (map unmarked l)) (map unmarked l)) (one (λ d. kind .noLater d e) l)
-      ∙ go (oneOf (λ d. kind .noLater d e) l) (evicted-unmarked l)
+      ap (λ (b : Bool). cond b (unmarked e ∷ evicted (marking kind) (map unmarked l)) (map unmarked l)) (one (λ d. noLater kind d e) l)
+      ∙ go (oneOf (λ d. noLater kind d e) l) (evicted-unmarked l)
     where
       one : (p : E → Bool) (l : List E) → oneOf (λ m. p (m .item)) (map unmarked l) ≡ oneOf p l
       one p l = ap (oneOf (λ m. p (m .item))) (sym (marked-none l)) ∙ one-marked p 0 l
@@ -198,8 +199,8 @@ module _ {K X E : Type 0} (kind : Kind K X E) where
   evicted-own zero l h = absurd (omega arith)
   evicted-own (suc n) [] h = sym (marked-nil (suc n - 1))
   evicted-own (suc n) (e ∷ l) h =
-      ap (λ (b : Bool). cond b (record { item = e; own = true } ∷ evicted (marking kind) (marked n l)) (marked n l)) (one-marked (λ d. kind .noLater d e) n l)
-      ∙ go (oneOf (λ d. kind .noLater d e) l) h (evicted-own n l)
+      ap (λ (b : Bool). cond b (record { item = e; own = true } ∷ evicted (marking kind) (marked n l)) (marked n l)) (one-marked (λ d. noLater kind d e) n l)
+      ∙ go (oneOf (λ d. noLater kind d e) l) h (evicted-own n l)
     where
       go : (b : Bool) → cond b (suc (evictPlace kind l)) 0 < suc n → (evictPlace kind l < n → evicted (marking kind) (marked n l) ≡ marked (n - 1) (removeAt (evictPlace kind l) l))
           → cond b (record { item = e; own = true } ∷ evicted (marking kind) (marked n l)) (marked n l) ≡ marked (suc n - 1) (removeAt (cond b (suc (evictPlace kind l)) 0) (e ∷ l))
@@ -216,8 +217,8 @@ module _ {K X E : Type 0} (kind : Kind K X E) where
   evicted-other zero l h = evicted-unmarked l ∙ ap (map unmarked) (evicted-at kind l)
   evicted-other (suc n) [] h = absurd (omega arith)
   evicted-other (suc n) (e ∷ l) h =
-      ap (λ (b : Bool). cond b (record { item = e; own = true } ∷ evicted (marking kind) (marked n l)) (marked n l)) (one-marked (λ d. kind .noLater d e) n l)
-      ∙ go (oneOf (λ d. kind .noLater d e) l) h (evicted-other n l)
+      ap (λ (b : Bool). cond b (record { item = e; own = true } ∷ evicted (marking kind) (marked n l)) (marked n l)) (one-marked (λ d. noLater kind d e) n l)
+      ∙ go (oneOf (λ d. noLater kind d e) l) h (evicted-other n l)
     where
       go : (b : Bool) → suc n ≤ cond b (suc (evictPlace kind l)) 0 → (n ≤ evictPlace kind l → evicted (marking kind) (marked n l) ≡ marked n (removeAt (evictPlace kind l) l))
           → cond b (record { item = e; own = true } ∷ evicted (marking kind) (marked n l)) (marked n l) ≡ marked (suc n) (removeAt (cond b (suc (evictPlace kind l)) 0) (e ∷ l))
@@ -225,7 +226,7 @@ module _ {K X E : Type 0} (kind : Kind K X E) where
       go false h i = absurd (omega arith)
 
   -- an option that withdraws goes over the bare list
-  pub withdrawn-all : (x : X) (keys : List K) (l : List E) → namedAll kind true x keys l ≡ foldl (λ h k. removed kind k h) l keys
+  pub withdrawn-all : (x : Moments) (keys : List K) (l : List E) → namedAll kind true x keys l ≡ foldl (λ h k. removed kind k h) l keys
   unfolding namedAll
   withdrawn-all x keys l = ap (map (λ m. m .item)) (go keys l) ∙ ap (map (λ m. m .item)) (sym (marked-none (foldl (λ h k. removed kind k h) l keys))) ∙ marked-items 0 (foldl (λ h k. removed kind k h) l keys)
     where
@@ -234,7 +235,7 @@ module _ {K X E : Type 0} (kind : Kind K X E) where
       go (k ∷ keys) l = ap (λ (y : List (Marked E)). foldl (named kind true x) y keys) (named-withdraws x k (map unmarked l) ∙ removed-unmarked k l) ∙ go keys (removed kind k l)
 
   -- an option leaves at most eight entries
-  pub named-fits : (w : Bool) (x : X) (l : List (Marked E)) (k : K) → length l ≤ places → length (named kind w x l k) ≤ places
+  pub named-fits : (w : Bool) (x : Moments) (l : List (Marked E)) (k : K) → length l ≤ places → length (named kind w x l k) ≤ places
   unfolding named
   named-fits w x l k h =
       cond-case (λ (m : List (Marked E)). length m ≤ places) w
@@ -244,7 +245,7 @@ module _ {K X E : Type 0} (kind : Kind K X E) where
       (λ _. omega (arith, renewed-length (marking kind) k x l))
       (λ _. omega (arith, inserted-length (marking kind .entry k x) (roomed (marking kind) l), roomed-length (marking kind) l h)))
 
-  pub all-fits : (w : Bool) (x : X) (keys : List K) (l : List E) → length l ≤ places → length (namedAll kind w x keys l) ≤ places
+  pub all-fits : (w : Bool) (x : Moments) (keys : List K) (l : List E) → length l ≤ places → length (namedAll kind w x keys l) ≤ places
   unfolding namedAll
   all-fits w x keys l h = omega (arith, length-map (foldl (named kind w x) (map unmarked l) keys) (λ m. m .item), go keys (map unmarked l) (omega (arith, length-map l unmarked)))
     where

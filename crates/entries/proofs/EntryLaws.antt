@@ -1,4 +1,4 @@
--- The laws of a list of entries, whatever an entry is about and however it expires. Assumes nothing.
+-- The laws of a list of entries, whatever an entry is about. Assumes nothing.
 use mathlib.Core.Path.{_≡_, refl, ap, sym, _∙_}
 use mathlib.Core.Bool.{Bool, true, false, cond, _||_, or-true, false≢true}
 use mathlib.Core.List.{List, [], _∷_, _++_, append-nil}
@@ -7,9 +7,10 @@ use native.Mathlib.Numerals.{add-one}
 use native.Mathlib.Omega.{arith}
 use lib.ListN.{length, take, getD}
 use lib.Seq.{take-suc}
+use borrow.Author.Tests.{le-leb, leb-true, leb-false}
 use Rattle.octets.proofs.BoolLaws.{and-left, and-right, or-left, or-right}
-use Rattle.serverlist.specs.Entries.{Kind, keep, oneOf, each}
-use Rattle.serverlist.specs.Places.{evictPlace}
+use Rattle.entries.specs.Entries.{Kind, keep, oneOf, each, expires, noLater}
+use Rattle.entries.specs.Places.{evictPlace}
 
 -- a choice, by the way it went
 module _ {A : Type 0} (P : A → Type 0) where
@@ -91,52 +92,54 @@ module _ {E : Type 0} (p q : E → Bool) where
       go true t h i = f e t (and-left (q e) (each q l) a)
       go false t h i = i h
 
--- An order of expiries: of any two entries one expires no later than the other, and so on along.
-pub record Ordered {K X E : Type 0} (kind : Kind K X E) : Type 0 where
-  pub total : (d e : E) → kind .noLater d e ≡ false → kind .noLater e d ≡ true
-  pub along : (c d e : E) → kind .noLater c d ≡ true → kind .noLater d e ≡ true → kind .noLater c e ≡ true
+-- Of any two entries one expires no later than the other, and so on along.
+module _ {K E : Type 0} (kind : Kind K E) where
+  total : (d e : E) → noLater kind d e ≡ false → noLater kind e d ≡ true
+  total d e h = le-leb (expires kind e .0) (expires kind d .0) (omega (arith, leb-false (expires kind d .0) (expires kind e .0) h))
 
-module _ {K X E : Type 0} (kind : Kind K X E) (o : Ordered kind) where
-  pub itself : (e : E) → kind .noLater e e ≡ true
-  itself e = go (kind .noLater e e) refl
+  along : (c d e : E) → noLater kind c d ≡ true → noLater kind d e ≡ true → noLater kind c e ≡ true
+  along c d e h k = le-leb (expires kind c .0) (expires kind e .0) (omega (arith, leb-true (expires kind c .0) (expires kind d .0) h, leb-true (expires kind d .0) (expires kind e .0) k))
+
+  pub itself : (e : E) → noLater kind e e ≡ true
+  itself e = go (noLater kind e e) refl
     where
-      go : (b : Bool) → kind .noLater e e ≡ b → kind .noLater e e ≡ true
+      go : (b : Bool) → noLater kind e e ≡ b → noLater kind e e ≡ true
       go true h = h
-      go false h = o .total e e h
+      go false h = total e e h
 
   -- where none behind it expires as early, an entry expires no later than those behind it
-  pub before-all : (e : E) (l : List E) → oneOf (λ d. kind .noLater d e) l ≡ false → each (λ d. kind .noLater e d) l ≡ true
-  before-all e l n = each-else (λ d. kind .noLater d e) (λ d. kind .noLater e d) l n (λ d h. o .total d e h)
+  pub before-all : (e : E) (l : List E) → oneOf (λ d. noLater kind d e) l ≡ false → each (λ d. noLater kind e d) l ≡ true
+  before-all e l n = each-else (λ d. noLater kind d e) (λ d. noLater kind e d) l n (λ d h. total d e h)
 
   -- what expires no later than each of a list, of which one expires no later than e, expires no later than e
-  pub through : (b e : E) (l : List E) → each (λ d. kind .noLater b d) l ≡ true → oneOf (λ d. kind .noLater d e) l ≡ true → kind .noLater b e ≡ true
-  through b e l a n = one-each (λ d. kind .noLater d e) (λ d. kind .noLater b d) l n a (λ d h k. o .along b d e k h)
+  pub through : (b e : E) (l : List E) → each (λ d. noLater kind b d) l ≡ true → oneOf (λ d. noLater kind d e) l ≡ true → noLater kind b e ≡ true
+  through b e l a n = one-each (λ d. noLater kind d e) (λ d. noLater kind b d) l n a (λ d h k. along b d e k h)
 
   -- the entry that is evicted expires no later than each
-  pub evicts : (l : List E) (z : E) → 0 < length l → each (λ d. kind .noLater (getD l (evictPlace kind l) z) d) l ≡ true
+  pub evicts : (l : List E) (z : E) → 0 < length l → each (λ d. noLater kind (getD l (evictPlace kind l) z) d) l ≡ true
   unfolding evictPlace
   evicts [] z h = absurd (omega arith)
-  evicts (e ∷ l) z h = go (oneOf (λ d. kind .noLater d e) l) refl (evicts l z)
+  evicts (e ∷ l) z h = go (oneOf (λ d. noLater kind d e) l) refl (evicts l z)
     where
-      go : (b : Bool) → oneOf (λ d. kind .noLater d e) l ≡ b
-          → (0 < length l → each (λ d. kind .noLater (getD l (evictPlace kind l) z) d) l ≡ true)
-          → each (λ d. kind .noLater (getD (e ∷ l) (cond b (suc (evictPlace kind l)) 0) z) d) (e ∷ l) ≡ true
+      go : (b : Bool) → oneOf (λ d. noLater kind d e) l ≡ b
+          → (0 < length l → each (λ d. noLater kind (getD l (evictPlace kind l) z) d) l ≡ true)
+          → each (λ d. noLater kind (getD (e ∷ l) (cond b (suc (evictPlace kind l)) 0) z) d) (e ∷ l) ≡ true
       go true t i =
-          let q = i (one-some (λ d. kind .noLater d e) l t) in
-          each-cons (λ d. kind .noLater (getD l (evictPlace kind l) z) d) e l (through (getD l (evictPlace kind l) z) e l q t) q
-      go false t i = each-cons (λ d. kind .noLater e d) e l (itself e) (before-all e l t)
+          let q = i (one-some (λ d. noLater kind d e) l t) in
+          each-cons (λ d. noLater kind (getD l (evictPlace kind l) z) d) e l (through (getD l (evictPlace kind l) z) e l q t) q
+      go false t i = each-cons (λ d. noLater kind e d) e l (itself e) (before-all e l t)
 
   pub evict-lt : (l : List E) → 0 < length l → evictPlace kind l < length l
   unfolding evictPlace
   evict-lt [] h = absurd (omega arith)
   evict-lt (e ∷ l) h =
-      cond-case (λ n. n < suc (length l)) (oneOf (λ d. kind .noLater d e) l) (λ t. omega (arith, evict-lt l (one-some (λ d. kind .noLater d e) l t))) (λ _. omega arith)
+      cond-case (λ n. n < suc (length l)) (oneOf (λ d. noLater kind d e) l) (λ t. omega (arith, evict-lt l (one-some (λ d. noLater kind d e) l t))) (λ _. omega arith)
 
   -- some expire no later than e exactly if the one that would be evicted does
-  pub one-evicts : (l : List E) (z e : E) → 0 < length l → oneOf (λ d. kind .noLater d e) l ≡ kind .noLater (getD l (evictPlace kind l) z) e
-  one-evicts l z e h = go (kind .noLater (getD l (evictPlace kind l) z) e) refl (oneOf (λ d. kind .noLater d e) l) refl
+  pub one-evicts : (l : List E) (z e : E) → 0 < length l → oneOf (λ d. noLater kind d e) l ≡ noLater kind (getD l (evictPlace kind l) z) e
+  one-evicts l z e h = go (noLater kind (getD l (evictPlace kind l) z) e) refl (oneOf (λ d. noLater kind d e) l) refl
     where
-      go : (s : Bool) → kind .noLater (getD l (evictPlace kind l) z) e ≡ s → (t : Bool) → oneOf (λ d. kind .noLater d e) l ≡ t → t ≡ s
-      go true p t q = sym q ∙ one-at (λ d. kind .noLater d e) l (evictPlace kind l) z (evict-lt l h) p
+      go : (s : Bool) → noLater kind (getD l (evictPlace kind l) z) e ≡ s → (t : Bool) → oneOf (λ d. noLater kind d e) l ≡ t → t ≡ s
+      go true p t q = sym q ∙ one-at (λ d. noLater kind d e) l (evictPlace kind l) z (evict-lt l h) p
       go false p true q = sym (through (getD l (evictPlace kind l) z) e l (evicts l z h) q) ∙ p
       go false p false q = refl

@@ -6,22 +6,27 @@ use lib.Dec.{ltb}
 use lib.ListN.{length}
 use borrow.Author.Tests.{not-true}
 use Rattle.octets.proofs.BoolLaws.{and-left, and-right, or-left, or-right}
-use Rattle.serverlist.specs.Entries.{Kind, Marked, places, keep, oneOf, each, isAbout, isHeld, distinct, removed, renewed, evicted, roomed, inserted, marking}
-use Rattle.serverlist.proofs.EntryLaws.{cond-case}
+use Rattle.entries.specs.Entries.{Kind, Marked, places, keep, oneOf, each, isAbout, isHeld, distinct, removed, renewed, evicted, roomed, inserted, marking, noLater}
+use Rattle.entries.specs.declared.Moments.{Moments}
+use Rattle.entries.proofs.EntryLaws.{cond-case}
 
--- Whether two keys are the same is an equivalence, an entry is about the key it is made with, and a renewal leaves that.
-pub record Lawful {K X E : Type 0} (kind : Kind K X E) : Type 0 where
-  pub made : (k : K) (x : X) → kind .about (kind .entry k x) ≡ k
-  pub kept : (x : X) (e : E) → kind .about (kind .renew x e) ≡ kind .about e
+-- Whether two keys are the same is an equivalence, an entry is about the key and has the moments that it is made with, and a renewal gives it other moments and leaves what it is about.
+pub record Lawful {K E : Type 0} (kind : Kind K E) : Type 0 where
+  pub made : (k : K) (x : Moments) → kind .about (kind .entry k x) ≡ k
+  pub kept : (x : Moments) (e : E) → kind .about (kind .renew x e) ≡ kind .about e
+  pub timed : (k : K) (x : Moments) → kind .moments (kind .entry k x) ≡ x
+  pub retimed : (x : Moments) (e : E) → kind .moments (kind .renew x e) ≡ x
   pub self : (k : K) → kind .same k k ≡ true
   pub turned : (j k : K) → kind .same j k ≡ kind .same k j
   pub along : (i j k : K) → kind .same i j ≡ true → kind .same i k ≡ kind .same j k
 
-pub lawful-marking : {K X E : Type 0} (kind : Kind K X E) → Lawful kind → Lawful (marking kind)
+pub lawful-marking : {K E : Type 0} (kind : Kind K E) → Lawful kind → Lawful (marking kind)
 lawful-marking kind w =
     record {
       made = w .made;
       kept = λ x m. w .kept x (m .item);
+      timed = w .timed;
+      retimed = λ x m. w .retimed x (m .item);
       self = w .self;
       turned = w .turned;
       along = w .along;
@@ -46,7 +51,7 @@ module _ {E : Type 0} (p : E → Bool) where
   keep-part [] = Sublistᴰ·slnil
   keep-part (e ∷ l) = cond-case (λ (m : List E). Sublistᴰ m (e ∷ l)) (p e) (λ _. Sublistᴰ·cons-cons refl (keep-part l)) (λ _. Sublistᴰ·cons (keep-part l))
 
-module _ {K X E : Type 0} (kind : Kind K X E) where
+module _ {K E : Type 0} (kind : Kind K E) where
   pub part-distinct : {m l : List E} → Sublistᴰ m l → distinct kind l ≡ true → distinct kind m ≡ true
   unfolding distinct
   part-distinct Sublistᴰ·slnil h = h
@@ -63,15 +68,15 @@ module _ {K X E : Type 0} (kind : Kind K X E) where
   pub evicted-part : (l : List E) → Sublistᴰ (evicted kind l) l
   unfolding evicted
   evicted-part [] = Sublistᴰ·slnil
-  evicted-part (e ∷ l) = cond-case (λ (m : List E). Sublistᴰ m (e ∷ l)) (oneOf (λ d. kind .noLater d e) l) (λ _. Sublistᴰ·cons-cons refl (evicted-part l)) (λ _. Sublistᴰ·cons (Sublistᴰ·refl l))
+  evicted-part (e ∷ l) = cond-case (λ (m : List E). Sublistᴰ m (e ∷ l)) (oneOf (λ d. noLater kind d e) l) (λ _. Sublistᴰ·cons-cons refl (evicted-part l)) (λ _. Sublistᴰ·cons (Sublistᴰ·refl l))
 
   pub roomed-part : (l : List E) → Sublistᴰ (roomed kind l) l
   unfolding roomed
   roomed-part l = cond-case (λ (m : List E). Sublistᴰ m l) (ltb (length l) places) (λ _. Sublistᴰ·refl l) (λ _. evicted-part l)
 
 -- Renewals change no key.
-module _ {K X E : Type 0} (kind : Kind K X E) (w : Lawful kind) where
-  pub renewed-held : (j k : K) (x : X) (l : List E) → isHeld kind j (renewed kind k x l) ≡ isHeld kind j l
+module _ {K E : Type 0} (kind : Kind K E) (w : Lawful kind) where
+  pub renewed-held : (j k : K) (x : Moments) (l : List E) → isHeld kind j (renewed kind k x l) ≡ isHeld kind j l
   unfolding renewed oneOf
   renewed-held j k x [] = refl
   renewed-held j k x (e ∷ l) =
@@ -79,7 +84,7 @@ module _ {K X E : Type 0} (kind : Kind K X E) (w : Lawful kind) where
       (λ _. ap (λ (i : K). kind .same j i || isHeld kind j l) (w .kept x e))
       (λ _. ap (λ (b : Bool). isAbout kind j e || b) (renewed-held j k x l))
 
-  pub renewed-distinct : (k : K) (x : X) (l : List E) → distinct kind (renewed kind k x l) ≡ distinct kind l
+  pub renewed-distinct : (k : K) (x : Moments) (l : List E) → distinct kind (renewed kind k x l) ≡ distinct kind l
   unfolding renewed distinct
   renewed-distinct k x [] = refl
   renewed-distinct k x (e ∷ l) =
@@ -87,7 +92,7 @@ module _ {K X E : Type 0} (kind : Kind K X E) (w : Lawful kind) where
       (λ _. ap (λ (i : K). not (isHeld kind i l) && distinct kind l) (w .kept x e))
       (λ _. rw (renewed-held (kind .about e) k x l, renewed-distinct k x l))
 
-pub renewed-each : {K X E : Type 0} (kind : Kind K X E) (p : E → Bool) (k : K) (x : X) (l : List E) → ((e : E) → p (kind .renew x e) ≡ true) → each p l ≡ true → each p (renewed kind k x l) ≡ true
+pub renewed-each : {K E : Type 0} (kind : Kind K E) (p : E → Bool) (k : K) (x : Moments) (l : List E) → ((e : E) → p (kind .renew x e) ≡ true) → each p l ≡ true → each p (renewed kind k x l) ≡ true
 unfolding renewed each
 renewed-each kind p k x [] r h = h
 renewed-each {E = E} kind p k x (e ∷ l) r h =

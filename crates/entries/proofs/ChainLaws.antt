@@ -9,14 +9,11 @@ use lib.ListN.{length, take, drop, getD, replicate}
 use lib.Seq.{length-take-le}
 use borrow.Author.Tests.{ltb-true, ltb-false, lt-ltb, le-ltb}
 use Rattle.octets.proofs.BoolLaws.{and-left, and-right, or-left, or-right}
-use Rattle.serverlist.specs.Entries.{keep, oneOf}
+use Rattle.entries.specs.Entries.{Kind, keep, oneOf, filled, expires, noLater}
 use Rattle.clock.specs.declared.Moment.{Moment}
-use Rattle.serverlist.specs.Servers.{servers, blank, expires}
-use Rattle.serverlist.specs.Places.{place, earlierOf, evictPlace}
-use Rattle.serverlist.specs.declared.Server.{Server}
-use Rattle.serverlist.specs.declared.eviction.Candidate.{Candidate}
-use Rattle.serverlist.proofs.PlaceLaws.{fill, one-place, place-here, place-next, place-end, evict-last, evict-keep, evict-take}
-use Rattle.serverlist.proofs.ServerLaws.{ordered}
+use Rattle.entries.specs.Places.{place, earlierOf, evictPlace}
+use Rattle.entries.specs.declared.eviction.Candidate.{Candidate}
+use Rattle.entries.proofs.PlaceLaws.{one-place, place-here, place-next, place-end, evict-last, evict-keep, evict-take}
 
 -- The search for the first entry that passes a test.
 module _ {E : Type 0} (p : E → Bool) (l : List E) (n t : ℕ) where
@@ -69,21 +66,21 @@ unfolding keep oneOf
 keep-all p [] h = refl
 keep-all p (e ∷ l) h = rw (or-left (p e) (oneOf p l) h, keep-all p l (or-right (p e) (oneOf p l) h))
 
--- The first n entries, the places behind them filled with z.
+-- The first n entries, the places behind them kept with z.
 module _ {E : Type 0} (z : E) where
-  unfoldable filled : ℕ → ℕ → List E → List E
-  filled i n [] = []
-  filled i n (e ∷ l) = cond (ltb i n) e z ∷ filled (suc i) n l
+  unfoldable kept : ℕ → ℕ → List E → List E
+  kept i n [] = []
+  kept i n (e ∷ l) = cond (ltb i n) e z ∷ kept (suc i) n l
 
-  filled-is : (i n : ℕ) (l : List E) → n ≤ i + length l → filled i n l ≡ take (n - i) l ++ replicate (length l - (n - i)) z
-  unfolding filled
-  filled-is i n [] b =
+  kept-is : (i n : ℕ) (l : List E) → n ≤ i + length l → kept i n l ≡ take (n - i) l ++ replicate (length l - (n - i)) z
+  unfolding kept
+  kept-is i n [] b =
       let e : n - i ≡ 0 = omega arith in
       rw e
-  filled-is i n (x ∷ l) b = go (ltb i n) refl (filled-is (suc i) n l (omega arith))
+  kept-is i n (x ∷ l) b = go (ltb i n) refl (kept-is (suc i) n l (omega arith))
     where
-      go : (c : Bool) → ltb i n ≡ c → filled (suc i) n l ≡ take (n - suc i) l ++ replicate (length l - (n - suc i)) z
-          → cond c x z ∷ filled (suc i) n l ≡ take (n - i) (x ∷ l) ++ replicate (suc (length l) - (n - i)) z
+      go : (c : Bool) → ltb i n ≡ c → kept (suc i) n l ≡ take (n - suc i) l ++ replicate (length l - (n - suc i)) z
+          → cond c x z ∷ kept (suc i) n l ≡ take (n - i) (x ∷ l) ++ replicate (suc (length l) - (n - i)) z
       go true q m =
           let h = ltb-true i n q in
           let e : n - i ≡ suc (n - suc i) = omega arith in
@@ -95,13 +92,13 @@ module _ {E : Type 0} (z : E) where
           let f : n - suc i ≡ 0 = omega arith in
           let g : suc (length l) - 0 ≡ suc (length l) = omega arith in
           let o : length l - 0 ≡ length l = omega arith in
-          let r : filled (suc i) n l ≡ replicate (length l) z = rw (f, o) at m in
+          let r : kept (suc i) n l ≡ replicate (length l) z = rw (f, o) at m in
           rw (e, g) (ap (λ (t : List E). z ∷ t) r)
 
   pub eight : (l : List E) (n : ℕ) (d : E) → length l ≡ 8 → n ≤ 8 →
       (cond (ltb 0 n) (getD l 0 d) z ∷ cond (ltb 1 n) (getD l 1 d) z ∷ cond (ltb 2 n) (getD l 2 d) z ∷ cond (ltb 3 n) (getD l 3 d) z ∷
-      cond (ltb 4 n) (getD l 4 d) z ∷ cond (ltb 5 n) (getD l 5 d) z ∷ cond (ltb 6 n) (getD l 6 d) z ∷ cond (ltb 7 n) (getD l 7 d) z ∷ []) ≡ fill z (take n l)
-  unfolding filled
+      cond (ltb 4 n) (getD l 4 d) z ∷ cond (ltb 5 n) (getD l 5 d) z ∷ cond (ltb 6 n) (getD l 6 d) z ∷ cond (ltb 7 n) (getD l 7 d) z ∷ []) ≡ filled z (take n l)
+  unfolding kept
   eight [] n d h b = absurd (omega arith)
   eight (a₀ ∷ []) n d h b = absurd (omega arith)
   eight (a₀ ∷ a₁ ∷ []) n d h b = absurd (omega arith)
@@ -114,25 +111,25 @@ module _ {E : Type 0} (z : E) where
       let l = a₀ ∷ a₁ ∷ a₂ ∷ a₃ ∷ a₄ ∷ a₅ ∷ a₆ ∷ a₇ ∷ [] in
       let e : n - 0 ≡ n = omega arith in
       let f : length (take n l) ≡ n = length-take-le n l b in
-      filled-is 0 n l b ∙ rw (e, f)
+      kept-is 0 n l b ∙ rw (e, f)
   eight (a₀ ∷ a₁ ∷ a₂ ∷ a₃ ∷ a₄ ∷ a₅ ∷ a₆ ∷ a₇ ∷ a₈ ∷ l) n d h b = absurd (omega arith)
 
 -- The search for the entry that is evicted, from the back.
-module _ (l : List Server) where
+module _ {K E : Type 0} (kind : Kind K E) (l : List E) (z : E) where
   -- the candidate among the entries from place i on
   pub record Foremost (i : ℕ) (c : Candidate) : Type 0 where
-    pub place : c .at ≡ i + evictPlace servers (drop i l)
-    pub expiry : c .expiry ≡ expires (getD l (c .at) blank)
+    pub place : c .at ≡ i + evictPlace kind (drop i l)
+    pub expires : c .expires ≡ expires kind (getD l (c .at) z)
 
-  pub foremost-last : (i : ℕ) (x : Moment) (e : Server) → length l ≡ i + 1 → e ≡ getD l i blank → x ≡ expires e → Foremost i (record { at = i; expiry = x })
-  foremost-last i x e h q y = record { place = omega (arith, evict-last servers ordered l blank i h); expiry = y ∙ ap expires q }
+  pub foremost-last : (i : ℕ) (x : Moment) → length l ≡ i + 1 → x ≡ expires kind (getD l i z) → Foremost i (record { at = i; expires = x })
+  foremost-last i x h y = record { place = omega (arith, evict-last kind l z i h); expires = y }
 
-  pub foremost-more : (i : ℕ) {c : Candidate} (e : Server) → 0 < i → i < length l → e ≡ getD l (i - 1) blank → Foremost i c → Foremost (i - 1) (earlierOf c e (i - 1))
-  foremost-more i {c} e p h q f = go (leb (c .expiry .0) (expires e .0)) refl
+  pub foremost-more : (i : ℕ) {c : Candidate} (x : Moment) → 0 < i → i < length l → x ≡ expires kind (getD l (i - 1) z) → Foremost i c → Foremost (i - 1) (earlierOf c x (i - 1))
+  foremost-more i {c} x p h q f = go (leb (c .expires .0) (x .0)) refl
     where
-      told : (b : Bool) → leb (c .expiry .0) (expires e .0) ≡ b → servers .noLater (getD l (c .at) blank) (getD l (i - 1) blank) ≡ b
-      told b t = rw (← f .expiry, ← q) t
+      told : (b : Bool) → leb (c .expires .0) (x .0) ≡ b → noLater kind (getD l (c .at) z) (getD l (i - 1) z) ≡ b
+      told b t = rw (← f .expires, ← q) t
 
-      go : (b : Bool) → leb (c .expiry .0) (expires e .0) ≡ b → Foremost (i - 1) (cond b c (record { at = i - 1; expiry = expires e }))
-      go true t = record { place = evict-keep servers ordered l blank i (c .at) p h (f .place) (told true t); expiry = f .expiry }
-      go false t = record { place = evict-take servers ordered l blank i (c .at) p h (f .place) (told false t); expiry = ap expires q }
+      go : (b : Bool) → leb (c .expires .0) (x .0) ≡ b → Foremost (i - 1) (cond b c (record { at = i - 1; expires = x }))
+      go true t = record { place = evict-keep kind l z i (c .at) p h (f .place) (told true t); expires = f .expires }
+      go false t = record { place = evict-take kind l z i (c .at) p h (f .place) (told false t); expires = q }

@@ -1,4 +1,4 @@
--- The laws of a list by its places, whatever an entry is about and however it expires. Assumes nothing.
+-- The laws of a list by its places, whatever an entry is about. Assumes nothing.
 use mathlib.Core.Path.{_≡_, refl, ap, sym, _∙_}
 use mathlib.Core.Bool.{Bool, true, false, cond, _||_}
 use mathlib.Core.List.{List, [], _∷_, _++_, append-assoc, append-nil}
@@ -9,9 +9,9 @@ use lib.Dec.{ltb, leb·suc-suc}
 use lib.ListN.{length, take, drop, getD, set, replicate, length-append, length-drop, drop-of-length-le}
 use lib.Seq.{set-append-seam, set-split, take-suc-set, drop-set-lt, drop-cons, take-all, take-at, drop-at, length-take-le, getD-take, getD-drop, set-append-left, append-snoc}
 use borrow.Author.Tests.{lt-ltb, le-ltb, ltb-true, ltb-false}
-use Rattle.serverlist.specs.Entries.{Kind, oneOf}
-use Rattle.serverlist.specs.Places.{place, insertAt, removeAt, replaceAt, evictPlace}
-use Rattle.serverlist.proofs.EntryLaws.{Ordered, one-evicts, one-nil}
+use Rattle.entries.specs.Entries.{Kind, oneOf, noLater, filled}
+use Rattle.entries.specs.Places.{place, insertAt, removeAt, replaceAt, evictPlace}
+use Rattle.entries.proofs.EntryLaws.{one-evicts, one-nil}
 
 module _ {E : Type 0} where
   pub getD-any : (l : List E) (i : ℕ) (d e : E) → i < length l → getD l i d ≡ getD l i e
@@ -109,25 +109,22 @@ module _ {E : Type 0} where
 
 -- Lists in eight places, the places behind them filled with z.
 module _ {E : Type 0} (z : E) where
-  abbrev pub fill : List E → List E
-  fill l = l ++ replicate (8 - length l) z
-
-  pub fill-length : (l : List E) → length l ≤ 8 → length (fill l) ≡ 8
+  pub fill-length : (l : List E) → length l ≤ 8 → length (filled z l) ≡ 8
   fill-length l h = omega (arith, length-append l (replicate (8 - length l) z), lib.ListN.length-replicate (8 - length l) z)
 
-  pub fill-full : (l : List E) → length l ≡ 8 → fill l ≡ l
+  pub fill-full : (l : List E) → length l ≡ 8 → filled z l ≡ l
   fill-full l h =
       let e : 8 - length l ≡ 0 = omega arith in
       rw e (append-nil l)
 
-  pub fill-push : (d : List E) (e : E) → length d < 8 → set (fill d) (length d) e ≡ fill (d ++ (e ∷ []))
+  pub fill-push : (d : List E) (e : E) → length d < 8 → set (filled z d) (length d) e ≡ filled z (d ++ (e ∷ []))
   fill-push d e h =
       let s : 8 - length d ≡ suc (7 - length d) = omega arith in
       let t : 8 - length (d ++ (e ∷ [])) ≡ 7 - length d = simp length-append (omega arith) in
       rw (s, t, set-append-seam, append-assoc)
 
   -- one entry removed: the others move up, and the last one's place is filled
-  pub fill-removed : (l : List E) (k n : ℕ) → length l ≡ n + 1 → length l ≤ 8 → k ≤ n → insertAt n z (removeAt k (fill l)) ≡ fill (removeAt k l)
+  pub fill-removed : (l : List E) (k n : ℕ) → length l ≡ n + 1 → length l ≤ 8 → k ≤ n → insertAt n z (removeAt k (filled z l)) ≡ filled z (removeAt k l)
   fill-removed l k n h b o =
       let r = replicate (8 - length l) z in
       let t : length (removeAt k l) ≡ n = omega (arith, removed-length k l (omega arith)) in
@@ -135,15 +132,15 @@ module _ {E : Type 0} (z : E) where
       ap (insertAt n z) (removed-ahead k l r (omega arith)) ∙ inserted-behind (removeAt k l) r z n t ∙ rw s
 
   -- one entry inserted: those from there on move back, over the first filled place
-  pub fill-inserted : (l : List E) (k n : ℕ) (x : E) → length l ≡ n → n < 8 → k ≤ n → insertAt k x (removeAt n (fill l)) ≡ fill (insertAt k x l)
+  pub fill-inserted : (l : List E) (k n : ℕ) (x : E) → length l ≡ n → n < 8 → k ≤ n → insertAt k x (removeAt n (filled z l)) ≡ filled z (insertAt k x l)
   fill-inserted l k n x h b o =
       let r = replicate (8 - length (insertAt k x l)) z in
       let s : 8 - length l ≡ suc (8 - length (insertAt k x l)) = omega (arith, inserted-length k x l (omega arith)) in
-      let c : removeAt n (fill l) ≡ l ++ r = rw s (removed-behind l r z n h) in
+      let c : removeAt n (filled z l) ≡ l ++ r = rw s (removed-behind l r z n h) in
       ap (insertAt k x) c ∙ inserted-ahead k x l r (omega arith)
 
   -- one place changed
-  pub fill-set : (l : List E) (k : ℕ) (x : E) → k < length l → set (fill l) k x ≡ fill (replaceAt k x l)
+  pub fill-set : (l : List E) (k : ℕ) (x : E) → k < length l → set (filled z l) k x ≡ filled z (replaceAt k x l)
   fill-set l k x h = set-append-left l (replicate (8 - length l) z) k x h ∙ rw (set-split l k x h, ← replaced-length k x l h)
 
 module _ {E : Type 0} (p : E → Bool) where
@@ -185,7 +182,7 @@ unfolding place
 place-end p l n i h k = rw (drop-of-length-le (take n l) {i = i} (omega (arith, length-take-le n l k)))
 
 -- The search for the entry that is evicted goes from the back.
-module _ {K X E : Type 0} (kind : Kind K X E) (o : Ordered kind) (l : List E) (d : E) where
+module _ {K E : Type 0} (kind : Kind K E) (l : List E) (d : E) where
   pub evict-last : (i : ℕ) → length l ≡ i + 1 → evictPlace kind (drop i l) ≡ 0
   unfolding evictPlace
   evict-last i h =
@@ -193,21 +190,21 @@ module _ {K X E : Type 0} (kind : Kind K X E) (o : Ordered kind) (l : List E) (d
       rw (drop-cons l i d k, drop-of-length-le l {i = suc i} (omega arith), one-nil)
 
   module _ (i best : ℕ) (p : 0 < i) (q : i < length l) (h : best ≡ i + evictPlace kind (drop i l)) where
-    down : evictPlace kind (drop (i - 1) l) ≡ cond (kind .noLater (getD l best d) (getD l (i - 1) d)) (suc (evictPlace kind (drop i l))) 0
+    down : evictPlace kind (drop (i - 1) l) ≡ cond (noLater kind (getD l best d) (getD l (i - 1) d)) (suc (evictPlace kind (drop i l))) 0
     unfolding evictPlace
     down =
         let e : suc (i - 1) ≡ i = omega arith in
         let w : drop (i - 1) l ≡ getD l (i - 1) d ∷ drop i l = drop-cons l (i - 1) d (omega arith) ∙ ap (λ (n : ℕ). getD l (i - 1) d ∷ drop n l) e in
         let z : 0 < length (drop i l) = simp length-drop (omega arith) in
         let g : getD (drop i l) (evictPlace kind (drop i l)) d ≡ getD l best d = getD-drop i l (evictPlace kind (drop i l)) d ∙ ap (λ (n : ℕ). getD l n d) (sym h) in
-        rw (w, one-evicts kind o (drop i l) d (getD l (i - 1) d) z, g)
+        rw (w, one-evicts kind (drop i l) d (getD l (i - 1) d) z, g)
 
-    pub evict-keep : kind .noLater (getD l best d) (getD l (i - 1) d) ≡ true → best ≡ i - 1 + evictPlace kind (drop (i - 1) l)
+    pub evict-keep : noLater kind (getD l best d) (getD l (i - 1) d) ≡ true → best ≡ i - 1 + evictPlace kind (drop (i - 1) l)
     evict-keep t =
         let s = rw t at down in
         omega arith
 
-    pub evict-take : kind .noLater (getD l best d) (getD l (i - 1) d) ≡ false → i - 1 ≡ i - 1 + evictPlace kind (drop (i - 1) l)
+    pub evict-take : noLater kind (getD l best d) (getD l (i - 1) d) ≡ false → i - 1 ≡ i - 1 + evictPlace kind (drop (i - 1) l)
     evict-take t =
         let s = rw t at down in
         omega arith

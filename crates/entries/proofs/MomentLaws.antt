@@ -1,0 +1,33 @@
+-- The laws of the two moments of an entry. Assumes nothing.
+use mathlib.Core.Path.{_≡_, refl}
+use mathlib.Core.Bool.{true, _||_, or-true}
+use Prim.Native.Nat.{_+_, min}
+use native.Mathlib.Omega.{arith}
+use lib.Dec.{eqb}
+use borrow.Author.Tests.{le-leb}
+use Rattle.octets.proofs.BoolLaws.{and-both}
+use Rattle.clock.specs.Clock.{latest, endless, isNever, isMoment, isExpiry, momentAfter, expiryAfter}
+use Rattle.clock.specs.declared.Moment.{Moment}
+use Rattle.clock.specs.declared.Span.{Span}
+use Rattle.entries.specs.Entries.{areMoments, momentsAfter, withdraws}
+use Rattle.entries.proofs.EntryLaws.{cond-case}
+
+-- now and a span is a moment
+is-moment-after : (clock : Moment) (after : Span) → isMoment (momentAfter clock after) ≡ true
+unfolding momentAfter
+is-moment-after clock after = le-leb (min (clock .0 + after .0) latest) latest (omega arith)
+
+-- what an option gives are moments
+pub are-moments-after : (clock : Moment) (lifetime router : Span) → areMoments (momentsAfter clock lifetime router) ≡ true
+unfolding areMoments momentsAfter isExpiry expiryAfter
+are-moments-after clock lifetime router =
+    and-both _ _
+    (cond-case (λ (m : Moment). (isNever m || isMoment m) ≡ true) (eqb (lifetime .0) endless)
+    (λ _. refl)
+    (λ _. rw (is-moment-after clock lifetime) (or-true (isNever (momentAfter clock lifetime)))))
+    (is-moment-after clock router)
+
+-- a router lifetime of 0 withdraws, whatever the Lifetime
+pub router-withdraws : (lifetime router : Span) → router .0 ≡ 0 → withdraws lifetime router ≡ true
+unfolding withdraws
+router-withdraws lifetime router z = rw z (or-true (eqb (lifetime .0) 0))
