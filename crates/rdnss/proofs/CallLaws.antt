@@ -16,7 +16,7 @@ use Rattle.serverlist.specs.declared.Server.{Server}
 use Rattle.serverlist.specs.declared.ServerList.{ServerList}
 use Rattle.rdnss.specs.Area.{isWhole, isArea, isActing, addresses, namedBy}
 use Rattle.rdnss.specs.Options.{isRouterLifetime, isWithdrawing, momentsOf, optionApplied}
-use Rattle.rdnss.specs.ServerList.{serversAfter, answer, serverList}
+use Rattle.rdnss.specs.ServerList.{serversAfter, answer, refusalOf, serverList}
 use Rattle.rdnss.proofs.NamingLaws.{unmarked-items}
 
 -- an option names the addresses that count where it acts, and none where it does not
@@ -62,24 +62,24 @@ area-whole area h = and-right (leb (length area) 1500) (isWhole 0 area) h
 -- the stages of the call
 module _ (list : ServerList) (clock : Moment) (router : Span) (area : List ℕ) where
   pub refused-31 : isSound list ≡ false → answer 31 list ≡ serverList list clock router area
-  unfolding serverList
+  unfolding serverList refusalOf
   refused-31 h = rw h
 
   module _ (s : isSound list ≡ true) where
     pub refused-15 : isTimely list clock ≡ false → answer 15 list ≡ serverList list clock router area
-    unfolding serverList
+    unfolding serverList refusalOf
     refused-15 h = rw (s, h)
 
     module _ (t : isTimely list clock ≡ true) where
       pub refused-router : isRouterLifetime router ≡ false → answer 15 list ≡ serverList list clock router area
-      unfolding serverList
+      unfolding serverList refusalOf
       refused-router h = rw (s, t, h)
 
       module _ (r : isRouterLifetime router ≡ true) where
         pub refused-16 : isArea area ≡ false → answer 16 list ≡ serverList list clock router area
-        unfolding serverList
+        unfolding serverList refusalOf
         refused-16 h = rw (s, t, r, h)
 
         pub accepted : isArea area ≡ true → answer 0 (packed clock (serversAfter clock router area (held list))) ≡ serverList list clock router area
-        unfolding serverList
+        unfolding serverList refusalOf
         accepted h = rw (s, t, r, h)

@@ -1,7 +1,8 @@
 -- A router's option area on the DNS server list. Document 01, "Server list" and, for 16, "Refusal numbers"; document 02, b).
-use mathlib.Core.Bool.{cond}
+use mathlib.Core.Bool.{cond, not}
 use mathlib.Core.List.{List}
 use Prim.Native.Nat.{ℕ}
+use lib.Dec.{eqb}
 use Rattle.clock.specs.declared.Moment.{Moment}
 use Rattle.clock.specs.declared.Span.{Span}
 use Rattle.serverlist.specs.declared.Server.{Server}
@@ -19,15 +20,18 @@ serversAfter clock router area l = applied clock router servers namedBy area l
 abbrev pub answer : ℕ → ServerList → ServerListAnswer
 answer refusal list = record { refusal = refusal; list = list }
 
--- The whole call. A refusal gives the very list that was handed in. The clock is tested before the router lifetime; either gives 15.
+-- The refusals in their order; the first that applies is given, and 0 where none does.
+unfoldable pub refusalOf : ServerList → Moment → Span → List ℕ → ℕ
+refusalOf list clock router area =
+    cond (not (isSound list)) 31
+    (cond (not (isTimely list clock)) 15
+    (cond (not (isRouterLifetime router)) 15
+    (cond (not (isArea area)) 16
+    0)))
+
+-- The whole call. A refusal gives the very list that was handed in.
 unfoldable pub serverList : ServerList → Moment → Span → List ℕ → ServerListAnswer
 serverList list clock router area =
-    cond (isSound list)
-    (cond (isTimely list clock)
-    (cond (isRouterLifetime router)
-    (cond (isArea area)
+    cond (eqb (refusalOf list clock router area) 0)
     (answer 0 (packed clock (serversAfter clock router area (held list))))
-    (answer 16 list))
-    (answer 15 list))
-    (answer 15 list))
-    (answer 31 list)
+    (answer (refusalOf list clock router area) list)
