@@ -1,6 +1,6 @@
 -- The laws of the two moments of an entry. Assumes nothing.
-use mathlib.Core.Path.{_≡_, refl}
-use mathlib.Core.Bool.{true, _||_, or-true}
+use mathlib.Core.Path.{_≡_, refl, ap}
+use mathlib.Core.Bool.{Bool, true, false, _&&_, _||_, or-true}
 use Prim.Native.Nat.{_+_, min}
 use native.Mathlib.Omega.{arith}
 use lib.Dec.{eqb}
@@ -10,7 +10,18 @@ use Rattle.clock.specs.Clock.{latest, endless, isNever, isMoment, isExpiry, mom
 use Rattle.clock.specs.declared.Moment.{Moment}
 use Rattle.clock.specs.declared.Span.{Span}
 use Rattle.entries.specs.Entries.{areMoments, momentsAfter, withdraws}
+use Rattle.entries.specs.declared.Moments.{Moments}
 use Rattle.entries.proofs.EntryLaws.{cond-case}
+
+-- whether they are such, by the expiry
+module _ (m : Moments) where
+  pub no-expiry : isExpiry (m .expiry) ≡ false → areMoments m ≡ false
+  unfolding areMoments
+  no-expiry h = ap (λ (b : Bool). b && isMoment (m .router)) h
+
+  pub by-router : isExpiry (m .expiry) ≡ true → areMoments m ≡ isMoment (m .router)
+  unfolding areMoments
+  by-router h = ap (λ (b : Bool). b && isMoment (m .router)) h
 
 -- now and a span is a moment
 is-moment-after : (clock : Moment) (after : Span) → isMoment (momentAfter clock after) ≡ true

@@ -7,7 +7,7 @@ use lib.ListN.{length, take, getD, set, replicate, length-append}
 use lib.Seq.{take-at, getD-take}
 use borrow.Author.Tests.{lt-ltb, le-leb}
 use Rattle.entries.specs.Entries.{places, filled}
-use Rattle.entries.specs.Places.{Holder, InPlaces, heldIn, packedIn, insertAt, removeAt, replaceAt, shifted, counting, exchanged, without, insertedIn}
+use Rattle.entries.specs.Places.{Holder, InPlaces, heldIn, packedIn, insertAt, removeAt, replaceAt, counting, exchanged, without, insertedIn}
 use Rattle.entries.proofs.PlaceLaws.{fill-length, fill-full, fill-push, fill-set, fill-removed, fill-inserted, removed-length, inserted-length, replaced-length, getD-any}
 
 module _ {E R L : Type 0} (h : Holder E R L) where

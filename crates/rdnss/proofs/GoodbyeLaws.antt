@@ -5,7 +5,6 @@ use mathlib.Core.List.{List, [], _∷_, foldl}
 use borrow.Author.Tests.{not-true}
 use Rattle.octets.proofs.BoolLaws.{and-left, and-right}
 use Rattle.entries.specs.Entries.{Kind, keep, oneOf, isAbout, isHeld, distinct, removed}
-use Rattle.entries.proofs.EntryLaws.{cond-case}
 use Rattle.entries.proofs.ChainLaws.{keep-all}
 use Rattle.entries.proofs.SoundLaws.{Lawful, part-distinct, keep-part}
 use Rattle.rdnss.proofs.NamingLaws.{held-alike}

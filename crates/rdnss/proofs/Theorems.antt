@@ -28,7 +28,7 @@ use Rattle.rdnss.specs.Options.{isRouterLifetime, isWithdrawing, moments
 use Rattle.rdnss.specs.ServerList.{serversAfter, serverList}
 use Rattle.rdnss.specs.Claims.{Evicts, EvictsFirst, StaysSound, isNamed, Less, fullLists, WasEvicted, HeldOrEvicted, isThere, wasThere, evictions, isUnnamed, serversBehind, KeepsUnnamed, isUntil, NamesLast, WithdrawsLast, GoodbyeTakesNamed}
 use Rattle.rdnss.proofs.NamingLaws.{all-distinct, all-each, all-stay-absent, unmarked-items, withdrawn-absent}
-use Rattle.rdnss.proofs.KeepingLaws.{Still, stood, went, still-for, less-same, less-then, evicted-front, evicted-back, keys-less, keys-name, still-there}
+use Rattle.rdnss.proofs.KeepingLaws.{Still, stood, went, less-same, less-then, evicted-front, evicted-back, keys-less, keys-name, still-there}
 use Rattle.rdnss.proofs.GoodbyeLaws.{keep-same, keep-each, keep-twice, neither, keys-keep}
 use Rattle.rdnss.proofs.CallLaws.{refused-31, refused-15, refused-router, refused-16, accepted, option-fits}
 

@@ -1,4 +1,3 @@
-use Rattle.serverlist.specs.Servers.{packed}
 use borrow.Author.Needs.{needs}
 use Rattle.serverlist.proofs.empty.Statement.{statement}
 use Rattle.serverlist.proofs.empty.Tie as tie
@@ -7,7 +6,6 @@ blank-requires : tie.Need-blank-requires
 blank-requires c κs = search needs
 
 returns : tie.Need-returns
-unfolding packed
 returns c = rw (c .blank .ensures)
 
 pub empty-spec : {M : Type 1} → statement M

@@ -1,4 +1,3 @@
-use mathlib.Core.Path.{_∙_, ap}
 use borrow.Author.Needs.{needs}
 use Rattle.serverlist.proofs.entry.renew.Statement.{statement}
 use Rattle.serverlist.proofs.entry.renew.Tie as tie
