@@ -7,7 +7,7 @@ use native.Mathlib.Omega.{arith}
 use lib.Dec.{ltb, leb}
 use lib.ListN.{length, take, drop, getD, replicate}
 use lib.Seq.{length-take-le}
-use borrow.Author.Tests.{ltb-true, ltb-false, lt-ltb, le-ltb}
+use borrow.Author.Tests.{le-leb, lt-leb, ltb-true, ltb-false, lt-ltb, le-ltb}
 use Rattle.octets.proofs.BoolLaws.{and-left, and-right, or-left, or-right}
 use Rattle.entries.specs.Entries.{Kind, keep, oneOf, filled, expires, noLater}
 use Rattle.clock.specs.declared.Moment.{Moment}
@@ -113,6 +113,14 @@ module _ {E : Type 0} (z : E) where
       let f : length (take n l) ≡ n = length-take-le n l b in
       kept-is 0 n l b ∙ rw (e, f)
   eight (a₀ ∷ a₁ ∷ a₂ ∷ a₃ ∷ a₄ ∷ a₅ ∷ a₆ ∷ a₇ ∷ a₈ ∷ l) n d h b = absurd (omega arith)
+
+-- the candidate stays unless the entry in front of it expires before it
+module _ (c : Candidate) (x : Moment) (at : ℕ) where
+  pub stays : c .expires .0 ≤ x .0 → earlierOf c x at ≡ c
+  stays h = rw (le-leb (c .expires .0) (x .0) h)
+
+  pub gives-way : x .0 < c .expires .0 → earlierOf c x at ≡ record { at = at; expires = x }
+  gives-way h = rw (lt-leb (c .expires .0) (x .0) h)
 
 -- The search for the entry that is evicted, from the back.
 module _ {K E : Type 0} (kind : Kind K E) (l : List E) (z : E) where

@@ -1,10 +1,10 @@
 -- The laws of the two moments of an entry. Assumes nothing.
-use mathlib.Core.Path.{_≡_, refl, ap}
+use mathlib.Core.Path.{_≡_, refl, ap, _∙_}
 use mathlib.Core.Bool.{Bool, true, false, _&&_, _||_, or-true}
 use Prim.Native.Nat.{_+_, min}
 use native.Mathlib.Omega.{arith}
 use lib.Dec.{eqb}
-use borrow.Author.Tests.{le-leb}
+use borrow.Author.Tests.{le-leb, eq-eqb, ne-eqb}
 use Rattle.octets.proofs.BoolLaws.{and-both}
 use Rattle.clock.specs.Clock.{latest, endless, isNever, isMoment, isExpiry, momentAfter, expiryAfter}
 use Rattle.clock.specs.declared.Moment.{Moment}
@@ -38,7 +38,16 @@ are-moments-after clock lifetime router =
     (λ _. rw (is-moment-after clock lifetime) (or-true (isNever (momentAfter clock lifetime)))))
     (is-moment-after clock router)
 
--- a router lifetime of 0 withdraws, whatever the Lifetime
-pub router-withdraws : (lifetime router : Span) → router .0 ≡ 0 → withdraws lifetime router ≡ true
-unfolding withdraws
-router-withdraws lifetime router z = rw z (or-true (eqb (lifetime .0) 0))
+-- what withdraws: a Lifetime of 0, a router lifetime of 0 whatever the Lifetime, and nothing else
+module _ (lifetime router : Span) where
+  pub lifetime-withdraws : lifetime .0 ≡ 0 → withdraws lifetime router ≡ true
+  unfolding withdraws
+  lifetime-withdraws z = ap (λ (b : Bool). b || eqb (router .0) 0) (eq-eqb (lifetime .0) 0 z)
+
+  pub router-withdraws : router .0 ≡ 0 → withdraws lifetime router ≡ true
+  unfolding withdraws
+  router-withdraws z = ap (λ (b : Bool). eqb (lifetime .0) 0 || b) (eq-eqb (router .0) 0 z) ∙ or-true (eqb (lifetime .0) 0)
+
+  pub router-decides : (lifetime .0 ≡ 0 → ⊥) → withdraws lifetime router ≡ eqb (router .0) 0
+  unfolding withdraws
+  router-decides n = ap (λ (b : Bool). b || eqb (router .0) 0) (ne-eqb (lifetime .0) 0 n)

@@ -13,7 +13,7 @@ use Rattle.entries.specs.declared.Moments.{Moments}
 abbrev pub places : ℕ
 places = 8
 
--- An entry has two moments: its expiry, which is a moment or never, and the router moment, at which the router that named it last is no longer one.
+-- An entry has two moments: its expiry, which is a moment or never, and the router moment, up to which the router that named it last says that it is one.
 
 -- The earlier of the two. Never is the highest number there is, so that it comes last.
 unfoldable pub earlier : Moments → Moment

@@ -1,15 +1,13 @@
-use borrow.Author.Tests.{eq-eqb, ne-eqb}
-use Rattle.entries.specs.Entries.{withdraws}
+use mathlib.Core.Path.{sym}
+use Rattle.entries.proofs.MomentLaws.{lifetime-withdraws, router-decides}
 use Rattle.entries.proofs.withdraws.Statement.{statement}
 use Rattle.entries.proofs.withdraws.Tie as tie
 
 returns : tie.Need-returns
-unfolding withdraws
-returns c = simp (eq-eqb _ _ (c .if1 .taken))
+returns c = sym (lifetime-withdraws _ _ (c .if1 .taken))
 
 returns-2 : tie.Need-returns-2
-unfolding withdraws
-returns-2 c = simp (ne-eqb _ _ (c .before .if1 .left))
+returns-2 c = sym (router-decides _ _ (c .before .if1 .left))
 
 pub withdraws-spec : {M : Type 1} → statement M
 withdraws-spec = tie.close (tie.spec returns returns-2)
