@@ -1,6 +1,6 @@
 -- The laws of one option and of the whole call. Assumes nothing.
-use mathlib.Core.Path.{_≡_}
-use mathlib.Core.Bool.{true, false}
+use mathlib.Core.Path.{_≡_, ap, _∙_}
+use mathlib.Core.Bool.{Bool, true, false}
 use mathlib.Core.List.{List, [], foldl}
 use Prim.Native.Nat.{ℕ, _≤_, _<_}
 use lib.Dec.{leb}
@@ -10,9 +10,9 @@ use borrow.Author.Tests.{le-leb, lt-leb}
 use Rattle.clock.specs.declared.Moment.{Moment}
 use Rattle.clock.specs.declared.Span.{Span}
 use Rattle.entries.specs.Entries.{Kind, places, removed, namedAll}
+use Rattle.entries.specs.declared.Moments.{Moments}
 use Rattle.entries.proofs.MarkLaws.{withdrawn-all, all-fits}
-use Rattle.serverlist.specs.Servers.{servers, held, packed, isSound, isTimely}
-use Rattle.serverlist.specs.declared.Server.{Server}
+use Rattle.serverlist.specs.Servers.{held, packed, isSound, isTimely}
 use Rattle.serverlist.specs.declared.ServerList.{ServerList}
 use Rattle.rdnss.specs.Area.{isWhole, isArea, isActing, addresses, namedBy}
 use Rattle.rdnss.specs.Options.{isRouterLifetime, isWithdrawing, momentsOf, optionApplied}
@@ -33,19 +33,20 @@ module _ (clock : Moment) (router : Span) where
   unfolding optionApplied
   option-fits kind names l v h = all-fits kind (isWithdrawing router v) (momentsOf clock router v) (names v) l h
 
-  module _ (l : List Server) (v : List ℕ) where
-    pub ignored : isActing v ≡ false → optionApplied clock router servers namedBy l v ≡ l
-    unfolding optionApplied namedAll
-    ignored h = rw (named-none v h) (unmarked-items l)
+  -- an option, by whether it withdraws
+  module _ {K E : Type 0} (kind : Kind K E) (names : List ℕ → List K) (l : List E) (v : List ℕ) where
+    pub withdraws : isWithdrawing router v ≡ true → optionApplied clock router kind names l v ≡ foldl (λ t k. removed kind k t) l (names v)
+    unfolding optionApplied
+    withdraws z = ap (λ (b : Bool). namedAll kind b (momentsOf clock router v) (names v) l) z ∙ withdrawn-all kind (momentsOf clock router v) (names v) l
 
-    module _ (h : isActing v ≡ true) where
-      pub withdraws : isWithdrawing router v ≡ true → optionApplied clock router servers namedBy l v ≡ foldl (λ t a. removed servers a t) l (addresses v)
-      unfolding optionApplied
-      withdraws z = rw (z, named-if v h) (withdrawn-all servers (momentsOf clock router v) (addresses v) l)
+    pub renames : isWithdrawing router v ≡ false → optionApplied clock router kind names l v ≡ namedAll kind false (momentsOf clock router v) (names v) l
+    unfolding optionApplied
+    renames z = ap (λ (b : Bool). namedAll kind b (momentsOf clock router v) (names v) l) z
 
-      pub names : isWithdrawing router v ≡ false → optionApplied clock router servers namedBy l v ≡ namedAll servers false (momentsOf clock router v) (addresses v) l
-      unfolding optionApplied
-      names n = rw (n, named-if v h)
+-- an option that names nothing changes nothing
+pub names-nothing : {K E : Type 0} (kind : Kind K E) (gone : Bool) (x : Moments) (l : List E) → namedAll kind gone x [] l ≡ l
+unfolding namedAll
+names-nothing kind gone x l = unmarked-items l
 
 pub area-long : (area : List ℕ) → 1500 < length area → isArea area ≡ false
 unfolding isArea

@@ -54,7 +54,11 @@ pub(crate) fn apply_all(l: ServerList, area: &[u8], clock: Moment, router: Span)
     let mut at: usize = 0;
     while at < area.len() {
         let end = at + area[at + 1] as usize * 8;
-        m = option::apply(m, &area[at..end], clock, router);
+        if option::is_withdrawing(&area[at..end], router) {
+            m = option::withdraw(m, &area[at..end]);
+        } else {
+            m = option::name(m, &area[at..end], clock, router);
+        }
         at = end;
     }
     m

@@ -1,4 +1,4 @@
-// One option of the area, applied to the list.
+// One option of the area, and what it does to the list.
 use clock::Moment;
 use clock::Span;
 use entries::Moments;
@@ -18,7 +18,7 @@ ghost use Rattle.entries.specs.Places.{InPlaces, Ready, Holds, marks};
 ghost use Rattle.serverlist.specs.Servers.{servers, held, packed};
 ghost use Rattle.serverlist.specs.Places.{serverPlaces};
 ghost use Rattle.rdnss.specs.Area.{isActing, counted, addressesFrom, namedBy};
-ghost use Rattle.rdnss.specs.Options.{optionApplied};
+ghost use Rattle.rdnss.specs.Options.{isWithdrawing, momentsOf};
 ghost use Rattle.rdnss.specs.Places.{OptionFits};
 
 // The Type of an option that names DNS servers.
@@ -140,19 +140,36 @@ fn address_count(units: usize) -> usize
     if n < COUNTED { n } else { COUNTED }
 }
 
-// One option, as the part of the area where it starts.
-pub(crate) fn apply(l: ServerList, option: &[u8], clock: Moment, router: Span) -> ServerList
+// Whether an option, in an area of a router with a lifetime, withdraws what it names.
+pub(crate) fn is_withdrawing(option: &[u8], router: Span) -> bool
+    ensures { λ r. ⌜ r ≡ isWithdrawing router (now (option .entry)) ⌝ }
+{
+    let lifetime = Span(octets::number::u32_at(option, 4));
+    entries::withdraws(lifetime, router)
+}
+
+// What an option names, withdrawn. The option comes as the part of the area where it starts.
+pub(crate) fn withdraw(l: ServerList, option: &[u8]) -> ServerList
     requires { ⌜ InPlaces serverPlaces l × OptionFits (now option) ⌝ }
-    ensures { λ r. ⌜ r ≡ packed (l .clock) (optionApplied clock router servers namedBy (held l) (now (option .entry))) ⌝ }
+    ensures { λ r. ⌜ r ≡ packed (l .clock) (foldl (λ h a. removed servers a h) (held l) (namedBy (now (option .entry)))) ⌝ }
+{
+    if !is_acting(option) {
+        return l;
+    }
+    let n = address_count(option[1] as usize);
+    withdraw_all(l, option, n)
+}
+
+// What an option names, renewed where it stands or inserted.
+pub(crate) fn name(l: ServerList, option: &[u8], clock: Moment, router: Span) -> ServerList
+    requires { ⌜ InPlaces serverPlaces l × OptionFits (now option) ⌝ }
+    ensures { λ r. ⌜ r ≡ packed (l .clock) (namedAll servers false (momentsOf clock router (now (option .entry))) (namedBy (now (option .entry))) (held l)) ⌝ }
 {
     if !is_acting(option) {
         return l;
     }
     let n = address_count(option[1] as usize);
     let lifetime = Span(octets::number::u32_at(option, 4));
-    if entries::withdraws(lifetime, router) {
-        return withdraw_all(l, option, n);
-    }
     let x = entries::moments_after(clock, lifetime, router);
     name_all(l, option, n, x)
 }
