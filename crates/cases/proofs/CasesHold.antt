@@ -14,7 +14,7 @@ use Rattle.entries.specs.Entries.{earlier, areMoments, momentsAfter, withdraws,
 use Rattle.serverlist.specs.Servers.{isSound, isTimely}
 use Rattle.rdnss.specs.Area.{isWhole, options, isArea, isActing, addressesFrom, namedBy}
 use Rattle.rdnss.specs.Options.{optionApplied}
-use Rattle.rdnss.specs.ServerList.{refusalOf, serverList}
+use Rattle.rdnss.specs.ServerList.{firstRefusal, serverList}
 use Rattle.lease.specs.Lease.{allZero, hardwareFits, lengthsFit, momentsFit, wellFormed, activeAt, hasHardware, hasClientId, ranksBefore}
 use Rattle.leasepacket.specs.Options as packetOptions
 use Rattle.leasepacket.specs.Packet.{isPacket}
@@ -41,5 +41,5 @@ p12-mixed = λ i. record { size = 0; at = fun-ext at i }
     at k = go (sameOctets (xRemoves .update .name) k) _ _
 
 pub cases-hold : All cases
-unfolding All Holds cases labelsOf limited shapeOf honoured flagAnswer byName bySuffix byFlags byValue answerOf octetsOf resultOf sameOctets numberAt isExpiry momentAfter expiryAfter earlier areMoments momentsAfter withdraws keep oneOf each distinct removed renewed evicted roomed inserted named namedAll isWhole options isArea isActing addressesFrom namedBy isSound isTimely optionApplied refusalOf serverList bigEndian isAhead secondsLeft secondsSince allZero hardwareFits lengthsFit momentsFit wellFormed activeAt hasClientId ranksBefore packetOptions.options values anySet asking risesFrom tableFits those placed ranked fixed ofLease flat otherReply activeReply hasKey byAddressOf byClientOf answerBy askedOf answer key including excluding with withName withoutName heldBy empty withAddress withoutAddress newHost left fits writeB requestA requestB removeAddress deleteName removeName fresh after afterFirst afterSecond step stepped steppedFresh hasHardware hasHardwareKey keys keyOf hasBadLength refusals firstOf isPacket hasOptions
+unfolding All Holds cases labelsOf limited shapeOf honoured flagAnswer byName bySuffix byFlags byValue answerOf octetsOf resultOf sameOctets numberAt isExpiry momentAfter expiryAfter earlier areMoments momentsAfter withdraws keep oneOf each distinct removed renewed evicted roomed inserted named namedAll isWhole options isArea isActing addressesFrom namedBy isSound isTimely optionApplied firstRefusal serverList bigEndian isAhead secondsLeft secondsSince allZero hardwareFits lengthsFit momentsFit wellFormed activeAt hasClientId ranksBefore packetOptions.options values anySet asking risesFrom tableFits those placed ranked fixed ofLease flat otherReply activeReply hasKey byAddressOf byClientOf answerBy askedOf answer key including excluding with withName withoutName heldBy empty withAddress withoutAddress newHost left fits writeB requestA requestB removeAddress deleteName removeName fresh after afterFirst afterSecond step stepped steppedFresh hasHardware hasHardwareKey keys keyOf hasBadLength refusals firstOf isPacket hasOptions
 cases-hold = (refl, (refl, (refl, (refl, (refl, (refl, (refl, ((refl, refl), ((refl, refl), ((refl, refl), (refl, (refl, (refl, (refl, (refl, (refl, ((refl, refl), ((refl, refl), ((refl, refl), ((refl, refl, refl), ((refl, refl, p12-mixed), ((refl, refl, p12-mixed), tt))))))))))))))))))))))

@@ -1,22 +1,23 @@
 -- The laws of one option and of the whole call. Assumes nothing.
-use mathlib.Core.Path.{_≡_, ap, _∙_}
+use mathlib.Core.Path.{_≡_, refl, ap, _∙_}
 use mathlib.Core.Bool.{Bool, true, false}
 use mathlib.Core.List.{List, [], foldl}
 use Prim.Native.Nat.{ℕ, _≤_, _<_}
 use lib.Dec.{leb}
 use Rattle.octets.proofs.BoolLaws.{and-right}
 use lib.ListN.{length}
-use borrow.Author.Tests.{le-leb, lt-leb}
+use native.Mathlib.Omega.{arith}
+use borrow.Author.Tests.{le-leb, lt-leb, eq-eqb, ne-eqb}
 use Rattle.clock.specs.declared.Moment.{Moment}
 use Rattle.clock.specs.declared.Span.{Span}
 use Rattle.entries.specs.Entries.{Kind, places, removed, namedAll}
 use Rattle.entries.specs.declared.Moments.{Moments}
 use Rattle.entries.proofs.MarkLaws.{withdrawn-all, all-fits}
-use Rattle.serverlist.specs.Servers.{held, packed, isSound, isTimely}
+use Rattle.serverlist.specs.Servers.{held, packed}
 use Rattle.serverlist.specs.declared.ServerList.{ServerList}
 use Rattle.rdnss.specs.Area.{isWhole, isArea, isActing, addresses, namedBy}
-use Rattle.rdnss.specs.Options.{isRouterLifetime, isWithdrawing, momentsOf, optionApplied}
-use Rattle.rdnss.specs.ServerList.{serversAfter, answer, refusalOf, serverList}
+use Rattle.rdnss.specs.Options.{isWithdrawing, momentsOf, optionApplied}
+use Rattle.rdnss.specs.ServerList.{serversAfter, answer, firstRefusal, refusalOf, serverList}
 use Rattle.rdnss.proofs.NamingLaws.{unmarked-items}
 
 -- an option names the addresses that count where it acts, and none where it does not
@@ -60,27 +61,52 @@ pub area-whole : (area : List ℕ) → isArea area ≡ true → isWhole 0 area �
 unfolding isArea
 area-whole area h = and-right (leb (length area) 1500) (isWhole 0 area) h
 
--- the stages of the call
+-- the refusals, in their order
+module _ (s t l w : Bool) where
+  pub first-31 : s ≡ false → firstRefusal s t l w ≡ 31
+  unfolding firstRefusal
+  first-31 h = rw h
+
+  module _ (a : s ≡ true) where
+    pub first-15 : t ≡ false → firstRefusal s t l w ≡ 15
+    unfolding firstRefusal
+    first-15 h = rw (a, h)
+
+    pub first-router : t ≡ true → l ≡ false → firstRefusal s t l w ≡ 15
+    unfolding firstRefusal
+    first-router b h = rw (a, b, h)
+
+    pub first-16 : t ≡ true → l ≡ true → w ≡ false → firstRefusal s t l w ≡ 16
+    unfolding firstRefusal
+    first-16 b d h = rw (a, b, d, h)
+
+    pub first-none : t ≡ true → l ≡ true → w ≡ true → firstRefusal s t l w ≡ 0
+    unfolding firstRefusal
+    first-none b d h = rw (a, b, d, h)
+
+-- what is known where none applies
+pub record Unrefused (s t l w : Bool) : Type 0 where
+  pub sound : s ≡ true
+  pub timely : t ≡ true
+  pub lasting : l ≡ true
+  pub whole : w ≡ true
+
+pub none-applies : (s t l w : Bool) → firstRefusal s t l w ≡ 0 → Unrefused s t l w
+none-applies true true true true h = record { sound = refl; timely = refl; lasting = refl; whole = refl }
+none-applies true true true false h = absurd (omega (arith, h, first-16 true true true false refl refl refl refl))
+none-applies true true false w h = absurd (omega (arith, h, first-router true true false w refl refl refl))
+none-applies true false l w h = absurd (omega (arith, h, first-15 true false l w refl refl))
+none-applies false t l w h = absurd (omega (arith, h, first-31 false t l w refl))
+
+pub first-same : {s t l w s' t' l' w' : Bool} → s ≡ s' → t ≡ t' → l ≡ l' → w ≡ w' → firstRefusal s t l w ≡ firstRefusal s' t' l' w'
+first-same a b c d = rw (a, b, c, d)
+
+-- the two ways of the call
 module _ (list : ServerList) (clock : Moment) (router : Span) (area : List ℕ) where
-  pub refused-31 : isSound list ≡ false → answer 31 list ≡ serverList list clock router area
-  unfolding serverList refusalOf
-  refused-31 h = rw h
+  pub refusing : (refusalOf list clock router area ≡ 0 → ⊥) → answer (refusalOf list clock router area) list ≡ serverList list clock router area
+  unfolding serverList
+  refusing n = rw (ne-eqb (refusalOf list clock router area) 0 n)
 
-  module _ (s : isSound list ≡ true) where
-    pub refused-15 : isTimely list clock ≡ false → answer 15 list ≡ serverList list clock router area
-    unfolding serverList refusalOf
-    refused-15 h = rw (s, h)
-
-    module _ (t : isTimely list clock ≡ true) where
-      pub refused-router : isRouterLifetime router ≡ false → answer 15 list ≡ serverList list clock router area
-      unfolding serverList refusalOf
-      refused-router h = rw (s, t, h)
-
-      module _ (r : isRouterLifetime router ≡ true) where
-        pub refused-16 : isArea area ≡ false → answer 16 list ≡ serverList list clock router area
-        unfolding serverList refusalOf
-        refused-16 h = rw (s, t, r, h)
-
-        pub accepted : isArea area ≡ true → answer 0 (packed clock (serversAfter clock router area (held list))) ≡ serverList list clock router area
-        unfolding serverList refusalOf
-        accepted h = rw (s, t, r, h)
+  pub accepting : refusalOf list clock router area ≡ 0 → answer 0 (packed clock (serversAfter clock router area (held list))) ≡ serverList list clock router area
+  unfolding serverList
+  accepting z = rw (eq-eqb (refusalOf list clock router area) 0 z)

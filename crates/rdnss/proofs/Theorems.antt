@@ -6,7 +6,7 @@ use Prim.Native.Nat.{ℕ, _≤_, _<_}
 use native.Mathlib.Omega.{arith}
 use lib.Dec.{leb, eqb}
 use lib.ListN.{length}
-use borrow.Author.Tests.{le-leb, eq-eqb}
+use borrow.Author.Tests.{le-leb, eq-eqb, eqb-true, eqb-false}
 use Rattle.octets.proofs.BoolLaws.{and-both, and-left, and-right, or-left, or-right}
 use Rattle.clock.specs.Clock.{span, isMoment}
 use Rattle.clock.specs.declared.Moment.{Moment}
@@ -25,12 +25,12 @@ use Rattle.serverlist.specs.declared.ServerList.{ServerList}
 use Rattle.serverlist.proofs.ServerLaws.{lawful, sound-count, sound-orderly}
 use Rattle.rdnss.specs.Area.{options, isArea, lifetimeOf, namedBy}
 use Rattle.rdnss.specs.Options.{isRouterLifetime, isWithdrawing, momentsOf, optionApplied}
-use Rattle.rdnss.specs.ServerList.{serversAfter, serverList}
+use Rattle.rdnss.specs.ServerList.{serversAfter, refusalOf, serverList}
 use Rattle.rdnss.specs.Claims.{Evicts, EvictsFirst, StaysSound, isNamed, Less, fullLists, WasEvicted, HeldOrEvicted, isThere, wasThere, evictions, isUnnamed, serversBehind, KeepsUnnamed, isUntil, NamesLast, WithdrawsLast, GoodbyeTakesNamed}
 use Rattle.rdnss.proofs.NamingLaws.{all-distinct, all-each, all-stay-absent, unmarked-items, withdrawn-absent}
 use Rattle.rdnss.proofs.KeepingLaws.{Still, stood, went, less-same, less-then, evicted-front, evicted-back, keys-less, keys-name, still-there}
 use Rattle.rdnss.proofs.GoodbyeLaws.{keep-same, keep-each, keep-twice, neither, keys-keep}
-use Rattle.rdnss.proofs.CallLaws.{refused-31, refused-15, refused-router, refused-16, accepted, option-fits}
+use Rattle.rdnss.proofs.CallLaws.{none-applies, refusing, accepting, option-fits}
 
 -- evictions
 module _ {K E : Type 0} (kind : Kind K E) where
@@ -224,40 +224,48 @@ timely-moment : (list : ServerList) (clock : Moment) → isTimely list clock ≡
 unfolding isTimely
 timely-moment list clock h = and-left (isMoment clock) (leb (list .clock .0) (clock .0)) h
 
-pub stays-sound : StaysSound
-stays-sound list clock router area s = go (isTimely list clock) refl (isRouterLifetime router) refl (isArea area) refl
-  where
-    go : (t : Bool) → isTimely list clock ≡ t → (r : Bool) → isRouterLifetime router ≡ r → (a : Bool) → isArea area ≡ a → isSound (serverList list clock router area .list) ≡ true
-    go true t true r true a =
-        ap (λ x. isSound (x .list)) (sym (accepted list clock router area s t r a))
-        ∙ packed-sound clock (serversAfter clock router area (held list)) (timely-moment list clock t)
-        (options-fit clock router servers lawful namedBy (options 0 area) (unexpired servers clock (held list)) (unexpired-fits servers serverPlaces list clock (sound-count list s)))
-        (options-orderly clock router servers lawful namedBy (options 0 area) (unexpired servers clock (held list)) (unexpired-orderly clock router servers lawful namedBy (held list) (sound-orderly list s)))
-    go true t true r false a = ap (λ x. isSound (x .list)) (sym (refused-16 list clock router area s t r a)) ∙ s
-    go true t false r a q = ap (λ x. isSound (x .list)) (sym (refused-router list clock router area s t r)) ∙ s
-    go false t r p a q = ap (λ x. isSound (x .list)) (sym (refused-15 list clock router area s t)) ∙ s
-
 -- a call that is not refused
 pub record Accepted (list : ServerList) (clock : Moment) (router : Span) (area : List ℕ) : Type 0 where
   pub sound : isSound list ≡ true
-  pub gives : held (serverList list clock router area .list) ≡ serversAfter clock router area (held list)
+  pub timely : isTimely list clock ≡ true
+  pub gives : serverList list clock router area .list ≡ packed clock (serversAfter clock router area (held list))
+
+accepted : (list : ServerList) (clock : Moment) (router : Span) (area : List ℕ) → refusalOf list clock router area ≡ 0 → Accepted list clock router area
+accepted list clock router area z =
+    let u = none-applies (isSound list) (isTimely list clock) (isRouterLifetime router) (isArea area) z in
+    record { sound = u .sound; timely = u .timely; gives = ap (λ x. x .list) (sym (accepting list clock router area z)) }
+
+-- the call by its refusal
+module _ (list : ServerList) (clock : Moment) (router : Span) (area : List ℕ) where
+  pub either : {C : Type 0} → (Accepted list clock router area → C) → ((refusalOf list clock router area ≡ 0 → ⊥) → C) → C
+  either {C} f g = go (eqb (refusalOf list clock router area) 0) refl
+    where
+      go : (b : Bool) → eqb (refusalOf list clock router area) 0 ≡ b → C
+      go true q = f (accepted list clock router area (eqb-true (refusalOf list clock router area) 0 q))
+      go false q = g (eqb-false (refusalOf list clock router area) 0 q)
+
+pub stays-sound : StaysSound
+stays-sound list clock router area s =
+    either list clock router area
+    (λ a.
+    ap isSound (a .gives)
+    ∙ packed-sound clock (serversAfter clock router area (held list)) (timely-moment list clock (a .timely))
+    (options-fit clock router servers lawful namedBy (options 0 area) (unexpired servers clock (held list)) (unexpired-fits servers serverPlaces list clock (sound-count list s)))
+    (options-orderly clock router servers lawful namedBy (options 0 area) (unexpired servers clock (held list)) (unexpired-orderly clock router servers lawful namedBy (held list) (sound-orderly list s))))
+    (λ n. ap (λ x. isSound (x .list)) (sym (refusing list clock router area n)) ∙ s)
 
 pub unrefused : (list : ServerList) (clock : Moment) (router : Span) (area : List ℕ) → serverList list clock router area .refusal ≡ 0 → Accepted list clock router area
-unrefused list clock router area h = go (isSound list) refl (isTimely list clock) refl (isRouterLifetime router) refl (isArea area) refl
-  where
-    go : (s : Bool) → isSound list ≡ s → (t : Bool) → isTimely list clock ≡ t → (r : Bool) → isRouterLifetime router ≡ r → (a : Bool) → isArea area ≡ a → Accepted list clock router area
-    go true s true t true r true a =
-        record { sound = s; gives = ap (λ x. held (x .list)) (sym (accepted list clock router area s t r a)) ∙ packed-held serverPlaces clock (serversAfter clock router area (held list)) }
-    go true s true t true r false a = absurd (let e : 16 ≡ 0 = ap (λ x. x .refusal) (refused-16 list clock router area s t r a) ∙ h in omega arith)
-    go true s true t false r a q = absurd (let e : 15 ≡ 0 = ap (λ x. x .refusal) (refused-router list clock router area s t r) ∙ h in omega arith)
-    go true s false t r p a q = absurd (let e : 15 ≡ 0 = ap (λ x. x .refusal) (refused-15 list clock router area s t) ∙ h in omega arith)
-    go false s t q r p a o = absurd (let e : 31 ≡ 0 = ap (λ x. x .refusal) (refused-31 list clock router area s) ∙ h in omega arith)
+unrefused list clock router area h = either list clock router area (λ a. a) (λ n. absurd (n (ap (λ x. x .refusal) (refusing list clock router area n) ∙ h)))
+
+-- the servers that such a call leaves
+pub leaves : {list : ServerList} {clock : Moment} {router : Span} {area : List ℕ} → Accepted list clock router area → held (serverList list clock router area .list) ≡ serversAfter clock router area (held list)
+leaves {list} {clock} {router} {area} a = ap held (a .gives) ∙ packed-held serverPlaces clock (serversAfter clock router area (held list))
 
 pub keeps-unnamed : KeepsUnnamed
 keeps-unnamed list clock router area h =
     let u = unexpired servers clock (held list) in
     let gone : Server → Type 0 = λ e. WasEvicted servers e (evictions servers namedBy clock router u (options 0 area)) in
-    subst (λ (r : List Server). Less gone (keep (isUnnamed area) u) (keep (isUnnamed area) r)) (sym (unrefused list clock router area h .gives))
+    subst (λ (r : List Server). Less gone (keep (isUnnamed area) u) (keep (isUnnamed area) r)) (sym (leaves (unrefused list clock router area h)))
     (options-less clock router servers lawful namedBy gone (isUnnamed area) (options 0 area) u (λ e t. ap not t) (λ e w. w))
 
 -- the servers after an area, by the option that names an address last
@@ -265,7 +273,7 @@ after-last : (list : ServerList) (clock : Moment) (router : Span) (area : List �
     → held (serverList list clock router area .list) ≡ serversBehind clock router (optionApplied clock router servers namedBy (serversBehind clock router (unexpired servers clock (held list)) before) last) after
 after-last list clock router area r before last after e =
     let u = unexpired servers clock (held list) in
-    r .gives ∙ ap (serversBehind clock router u) e ∙ foldl-append (optionApplied clock router servers namedBy) u before (last ∷ after)
+    leaves r ∙ ap (serversBehind clock router u) e ∙ foldl-append (optionApplied clock router servers namedBy) u before (last ∷ after)
 
 pub names-last : NamesLast
 names-last list clock router area h a before last after e n z f =
@@ -289,4 +297,4 @@ goodbye-takes-named list clock area h =
     let r = unrefused list clock (span 0) area h in
     let u = unexpired servers clock (held list) in
     let o : isOrderly servers u ≡ true = unexpired-orderly clock (span 0) servers lawful namedBy (held list) (sound-orderly list (r .sound)) in
-    r .gives ∙ goodbye clock (span 0) servers lawful namedBy refl (options 0 area) u (and-left (distinct servers u) (each (isTimed servers) u) o)
+    leaves r ∙ goodbye clock (span 0) servers lawful namedBy refl (options 0 area) u (and-left (distinct servers u) (each (isTimed servers) u) o)

@@ -1,5 +1,5 @@
 -- A router's option area on the DNS server list. Document 01, "Server list" and, for 16, "Refusal numbers"; document 02, b).
-use mathlib.Core.Bool.{cond, not}
+use mathlib.Core.Bool.{Bool, cond, not}
 use mathlib.Core.List.{List}
 use Prim.Native.Nat.{ℕ}
 use lib.Dec.{eqb}
@@ -20,14 +20,17 @@ serversAfter clock router area l = applied clock router servers namedBy area l
 abbrev pub answer : ℕ → ServerList → ServerListAnswer
 answer refusal list = record { refusal = refusal; list = list }
 
--- The refusals in their order; the first that applies is given, and 0 where none does.
-unfoldable pub refusalOf : ServerList → Moment → Span → List ℕ → ℕ
-refusalOf list clock router area =
-    cond (not (isSound list)) 31
-    (cond (not (isTimely list clock)) 15
-    (cond (not (isRouterLifetime router)) 15
-    (cond (not (isArea area)) 16
+-- The refusals in their order, by whether the list is sound, the clock timely, the router lifetime one and the area one; the first that applies is given, and 0 where none does.
+unfoldable pub firstRefusal : Bool → Bool → Bool → Bool → ℕ
+firstRefusal sound timely lasting whole =
+    cond (not sound) 31
+    (cond (not timely) 15
+    (cond (not lasting) 15
+    (cond (not whole) 16
     0)))
+
+abbrev pub refusalOf : ServerList → Moment → Span → List ℕ → ℕ
+refusalOf list clock router area = firstRefusal (isSound list) (isTimely list clock) (isRouterLifetime router) (isArea area)
 
 -- The whole call. A refusal gives the very list that was handed in.
 unfoldable pub serverList : ServerList → Moment → Span → List ℕ → ServerListAnswer

@@ -9,7 +9,7 @@ use serverlist::expiry;
 use serverlist::form;
 ghost use mathlib.Core.Path.{_≡_};
 ghost use Rattle.rdnss.specs.Options.{isRouterLifetime};
-ghost use Rattle.rdnss.specs.ServerList.{answer, serverList};
+ghost use Rattle.rdnss.specs.ServerList.{answer, firstRefusal, serverList};
 
 // The most seconds that a router's lifetime may have.
 pub const MOST_LIFETIME: u32 = 65535;
@@ -38,6 +38,25 @@ fn is_router_lifetime(router: Span) -> bool
     router.0 <= MOST_LIFETIME
 }
 
+// The refusals in their order; 0 where none applies.
+fn first_refusal(sound: bool, timely: bool, lasting: bool, whole: bool) -> u32
+    ensures { λ r. ⌜ r ≡ firstRefusal sound timely lasting whole ⌝ }
+{
+    if !sound {
+        return 31;
+    }
+    if !timely {
+        return 15;
+    }
+    if !lasting {
+        return 15;
+    }
+    if !whole {
+        return 16;
+    }
+    0
+}
+
 // The list after a router's option area has come in at a clock. Refused are, in this order: a list
 // that is not sound (31), a clock above clock::LATEST or behind the list's (15), a router lifetime
 // above 65,535 (15), and an area of more than 1,500 octets, or with an option of Length 0 or past the
@@ -51,17 +70,13 @@ pub extern "C" fn jespurla_server_list(
 ) -> ServerListAnswer
     ensures { λ r. ⌜ r ≡ serverList list clock router (now (area .entry)) ⌝ }
 {
-    if !form::is_sound(list) {
-        return refused(31, list);
-    }
-    if !form::is_timely(list, clock) {
-        return refused(15, list);
-    }
-    if !is_router_lifetime(router) {
-        return refused(15, list);
-    }
-    if !area::is_area(area) {
-        return refused(16, list);
+    let sound = form::is_sound(list);
+    let timely = form::is_timely(list, clock);
+    let lasting = is_router_lifetime(router);
+    let whole = area::is_area(area);
+    let refusal = first_refusal(sound, timely, lasting, whole);
+    if refusal != 0 {
+        return refused(refusal, list);
     }
     let unexpired = expiry::without_expired(list, clock);
     let applied = area::apply_all(unexpired, area, clock, router);
