@@ -29,6 +29,7 @@ firstRefusal sound timely lasting whole =
     (cond (not whole) 16
     0)))
 
+-- The refusal of a call.
 abbrev pub refusalOf : ServerList → Moment → Span → List ℕ → ℕ
 refusalOf list clock router area = firstRefusal (isSound list) (isTimely list clock) (isRouterLifetime router) (isArea area)
 
