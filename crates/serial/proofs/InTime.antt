@@ -64,7 +64,7 @@ module _ (C : Calls) (P : Promises C) (js : List Arguments) (z₀ : C .Z) (ks₀
   regular-first (j ∷ js) (x ∷ ks) (oneMore m f) zero k e = let q : x ≡ k = cc in subst (λ (u : C .J). Regular (C .jobOf u)) q (subst Regular (sym (P .new j x m)) (regular-fresh j))
   regular-first (j ∷ js) (x ∷ ks) (oneMore m f) (suc i) k e = regular-first js ks f i k e
 
-  regular : {z : C .Z} {ks : List (C .J)} → Steps C z₀ ks₀ z ks → (i : ℕ) (k : C .J) → getElem? ks i ≡ some k → Regular (C .jobOf k)
+  pub regular : {z : C .Z} {ks : List (C .J)} → Steps C z₀ ks₀ z ks → (i : ℕ) (k : C .J) → getElem? ks i ≡ some k → Regular (C .jobOf k)
   regular start i k e = regular-first js ks₀ new i k e
   regular (refused l y j r p q) i k e = regular l i k e
   regular (stepped {z = z} {ks = ks} l n j r g p q) i k e = go (ℕ-discrete i n) (λ x c d. regular l x c d)
@@ -92,7 +92,7 @@ ends-in-time C P z₀ z js ks₀ ks g new l i k e o =
 
 -- ---- six at most
 
-few-sent : (e : End) (n : ℕ) → possible (ended e) ≡ true → sent e ≡ some n → n ≤ 6
+pub few-sent : (e : End) (n : ℕ) → possible (ended e) ≡ true → sent e ≡ some n → n ≤ 6
 unfolding possible
 few-sent (done m) n c q = subst (λ (x : ℕ). x ≤ 6) (sym (some-eq q)) (each-among (λ x. x ≤ 6) m (1 ∷ 2 ∷ 3 ∷ 4 ∷ 5 ∷ 6 ∷ []) (omega arith, (omega arith, (omega arith, (omega arith, (omega arith, (omega arith, tt)))))) c)
 few-sent (noRoom m) n c q = subst (λ (x : ℕ). x ≤ 6) (sym (some-eq q)) (each-among (λ x. x ≤ 6) m (1 ∷ 2 ∷ 3 ∷ 4 ∷ 5 ∷ 6 ∷ []) (omega arith, (omega arith, (omega arith, (omega arith, (omega arith, (omega arith, tt)))))) c)
