@@ -2,3 +2,6 @@
 pub mod NameLaws
 pub mod Telling
 pub mod Bounds
+pub mod RoundSteps
+pub mod Rounds
+pub mod Reached

@@ -3,7 +3,7 @@ use mathlib.Core.Path.{_≡_, refl, sym, _∙_, ap}
 use mathlib.Core.Bool.{true}
 use mathlib.Core.List.{[], _∷_, _++_}
 use mathlib.Core.Option.{none, some}
-use Prim.Native.Nat.{ℕ}
+use Prim.Native.Nat.{ℕ, suc}
 use native.Mathlib.Omega.{arith}
 use lib.ListN.{length, replicate}
 use Rattle.octets.specs.Compare.{sameOctets}
@@ -39,7 +39,7 @@ abbrev ofY : Dhcid
 ofY = record { octets = yDhcid }
 
 -- of family 4 the first 4 octets
-abbrev addressX : Address
+abbrev pub addressX : Address
 addressX = record { octets = address1 ++ replicate 12 0 }
 
 abbrev addressY : Address
@@ -63,15 +63,15 @@ new-y = newAdd pipeName ofY 4 addressY 0 (record { refusal = 0; job = ky }) (unf
 
 -- A step of the rules: of a job that means m, from a zone that means x to one that means y, and to a stage. Nothing of it is refused.
 pub record Turn (z w : Zone) (j : Job) (x y : rules.Zone) (m : jobs.Job) (s : Stage) : Type 0 where
-  from : zoneOf z ≡ x
-  to : zoneOf w ≡ y
-  is : jobOf j ≡ m
-  rule : step (m .arguments) x (m .stage) ≡ state y s
-  good : formed z ≡ true
-  goodAgain : formed w ≡ true
-  ok : Ok j
-  same : y ≡ x → w ≡ z
-  spells : Spells (nameOf (j .name)) z w
+  pub from : zoneOf z ≡ x
+  pub to : zoneOf w ≡ y
+  pub is : jobOf j ≡ m
+  pub rule : step (m .arguments) x (m .stage) ≡ state y s
+  pub good : formed z ≡ true
+  pub goodAgain : formed w ≡ true
+  pub ok : Ok j
+  pub same : y ≡ x → w ≡ z
+  pub spells : Spells (nameOf (j .name)) z w
 
 module _ {z w : Zone} {j : Job} {x y : rules.Zone} {m : jobs.Job} {s : Stage} (t : Turn z w j x y m s) where
   goes : stepOf z j ≡ state y s
@@ -98,13 +98,13 @@ module _ {z w : Zone} {j : Job} {x y : rules.Zone} {m : jobs.Job} {s : Stage} (t
   unfolding jobOf
   next-is = kept-promises .jobAfter z j (record { refusal = 0; zone = w; job = atStage j s }) meets refl ∙ (λ i. record { arguments = t .is i .arguments; stage = goes i .stage })
 
-  next-ok : Ok (atStage j s)
+  pub next-ok : Ok (atStage j s)
   next-ok = taken .job-ok z j (record { refusal = 0; zone = w; job = atStage j s }) meets refl
 
 x-is : jobOf kx ≡ record { arguments = xRemoves; stage = beforeFirst }
 x-is = kept-promises .new xRemoves kx new-x ∙ (unfold fresh xRemoves in refl)
 
-y-is : jobOf ky ≡ record { arguments = yAdds; stage = beforeA 0 }
+pub y-is : jobOf ky ≡ record { arguments = yAdds; stage = beforeA 0 }
 y-is = kept-promises .new yAdds ky new-y ∙ (unfold fresh yAdds in refl)
 
 address-goes : heldByX nothing ≡ heldByX oneAddress → bare ≡ full
@@ -118,12 +118,9 @@ name-goes : noNames ≡ heldByX nothing → clear ≡ bare
 unfolding heldByX
 name-goes e = let q : _≡_ {A = ℕ} 0 1 = ap (λ (z : rules.Zone). z .size) e in absurd (omega arith)
 
--- X's remove at its second request, Y's add at its second.
+-- X's remove at its second request.
 abbrev pub kx₂ : Job
 kx₂ = atStage kx beforeSecond
-
-abbrev pub ky₂ : Job
-ky₂ = atStage ky (beforeB 1)
 
 pub x-first : Turn full bare kx (heldByX oneAddress) (heldByX nothing) (record { arguments = xRemoves; stage = beforeFirst }) beforeSecond
 x-first = record {
@@ -138,31 +135,45 @@ x-first = record {
   spells = spells-same (nameOf (kx .name)) full bare (held-spelled no4 (one4 address1));
 }
 
+-- Y's add, n requests sent, finds the name at its request A, and another owner at its request B.
+module _ (j : Job) (n : ℕ) where
+  abbrev adding : Stage → jobs.Job
+  adding s = record { arguments = yAdds; stage = s }
+
+  pub asks-bare : jobOf j ≡ adding (beforeA n) → Ok j → Turn bare bare j (heldByX nothing) (heldByX nothing) (adding (beforeA n)) (beforeB (suc n))
+  asks-bare is ok = record {
+    from = bare-zone;
+    to = bare-zone;
+    is = is;
+    rule = y-asks n;
+    good = bare-formed;
+    goodAgain = bare-formed;
+    ok = ok;
+    same = λ e. refl;
+    spells = spells-same (nameOf (j .name)) bare bare refl;
+  }
+
+  pub conflicts-bare : jobOf j ≡ adding (beforeB n) → Ok j → Turn bare bare j (heldByX nothing) (heldByX nothing) (adding (beforeB n)) (ended (conflict (suc n)))
+  conflicts-bare is ok = record {
+    from = bare-zone;
+    to = bare-zone;
+    is = is;
+    rule = y-conflicts n;
+    good = bare-formed;
+    goodAgain = bare-formed;
+    ok = ok;
+    same = λ e. refl;
+    spells = spells-same (nameOf (j .name)) bare bare refl;
+  }
+
 pub y-first : Turn bare bare ky (heldByX nothing) (heldByX nothing) (record { arguments = yAdds; stage = beforeA 0 }) (beforeB 1)
-y-first = record {
-  from = bare-zone;
-  to = bare-zone;
-  is = y-is;
-  rule = y-asks;
-  good = bare-formed;
-  goodAgain = bare-formed;
-  ok = taken .new-ok yAdds ky new-y;
-  same = λ e. refl;
-  spells = spells-same (nameOf (ky .name)) bare bare refl;
-}
+y-first = asks-bare ky 0 y-is (taken .new-ok yAdds ky new-y)
+
+abbrev pub ky₂ : Job
+ky₂ = atStage ky (beforeB 1)
 
 pub y-second : Turn bare bare ky₂ (heldByX nothing) (heldByX nothing) (record { arguments = yAdds; stage = beforeB 1 }) (ended (conflict 2))
-y-second = record {
-  from = bare-zone;
-  to = bare-zone;
-  is = next-is y-first;
-  rule = y-conflicts;
-  good = bare-formed;
-  goodAgain = bare-formed;
-  ok = next-ok y-first;
-  same = λ e. refl;
-  spells = spells-same (nameOf (ky₂ .name)) bare bare refl;
-}
+y-second = conflicts-bare ky₂ 1 (next-is y-first) (next-ok y-first)
 
 pub x-second : Turn bare clear kx₂ (heldByX nothing) noNames (record { arguments = xRemoves; stage = beforeSecond }) (ended gone)
 x-second = record {
@@ -201,7 +212,7 @@ p12-of-calls = record {
 
 -- A job for pipe is a value whatever its stage and its count, as far as they are octets.
 module _ (d : Dhcid) (a : Address) (dn : length (d .octets) ≡ 35) (an : length (a .octets) ≡ 16) (l : areOctets (d .octets ++ a .octets) ≡ true) where
-  job-value : (stage count : ℕ) → areOctets (stage ∷ count ∷ []) ≡ true
+  pub job-value : (stage count : ℕ) → areOctets (stage ∷ count ∷ []) ≡ true
       → JobValue (record { stage = stage; count = count; family = 4; policy = 0; name = pipeName; dhcid = d; address = a })
   unfolding pipeName
   job-value stage count h = record {

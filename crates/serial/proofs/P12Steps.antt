@@ -2,6 +2,7 @@
 use mathlib.Core.Path.{_≡_, refl, ap, fun-ext}
 use mathlib.Core.Bool.{Bool, true, false, cond, not, _&&_, _||_}
 use mathlib.Core.Option.{none, some}
+use Prim.Native.Nat.{ℕ, suc}
 use Rattle.octets.specs.Compare.{sameOctets}
 use Rattle.octets.specs.Count.{Octets, member}
 use Rattle.addresses.specs.Addresses.{Family, four, six, nothing, excluding}
@@ -37,14 +38,14 @@ x-takes = λ i. record { zone = record { size = 1; at = fun-ext at i }; stage = 
     at : (k : Octets) → step xRemoves (heldByX oneAddress) beforeFirst .zone .at k ≡ heldByX nothing .at k
     at k = go (sameOctets pipe k)
 
--- Y's request A finds the name, its request B another owner.
-pub y-asks : step yAdds (heldByX nothing) (beforeA 0) ≡ state (heldByX nothing) (beforeB 1)
+-- Y's request A finds the name, its request B another owner, whatever number was sent before.
+pub y-asks : (n : ℕ) → step yAdds (heldByX nothing) (beforeA n) ≡ state (heldByX nothing) (beforeB (suc n))
 unfolding heldByX yAdds pipe step requestA after sameOctets key
-y-asks = refl
+y-asks n = refl
 
-pub y-conflicts : step yAdds (heldByX nothing) (beforeB 1) ≡ state (heldByX nothing) (ended (conflict 2))
+pub y-conflicts : (n : ℕ) → step yAdds (heldByX nothing) (beforeB n) ≡ state (heldByX nothing) (ended (conflict (suc n)))
 unfolding heldByX xHost yAdds pipe xDhcid yDhcid step requestB after heldBy sameOctets key
-y-conflicts = refl
+y-conflicts n = refl
 
 -- X's second request deletes the name: no key has a host then.
 pub x-deletes : step xRemoves (heldByX nothing) beforeSecond ≡ state noNames (ended gone)

@@ -1,14 +1,15 @@
 -- The three zones of P12 as structs: pipe held by X with its address, the same without one, and no name. Assumes nothing.
 use mathlib.Core.Path.{_≡_, refl, fun-ext}
-use mathlib.Core.Bool.{true}
+use mathlib.Core.Bool.{true, cond}
 use mathlib.Core.List.{_++_, map}
 use mathlib.Core.Option.{none, some}
 use lib.ListN.{replicate}
+use Rattle.octets.specs.Compare.{sameOctets}
 use Rattle.octets.specs.Count.{Octets, member, distinct}
 use Rattle.addresses.specs.declared.set4.Set4.{Set4}
 use Rattle.addresses.specs.Addresses.{Family, four, six, nothing, octets4, list4, setOf, sound}
 use Rattle.dname.specs.declared.name.Name.{Name}
-use Rattle.dname.specs.Name.{labelsOf, limited, shapeOf, isFull, key}
+use Rattle.dname.specs.Name.{labelsOf, limited, shapeOf, isFull, nameOf, key}
 use Rattle.zone.specs.declared.entry.Dhcid.{Dhcid}
 use Rattle.zone.specs.declared.entry.Entry.{Entry}
 use Rattle.zone.specs.declared.Zone.{Zone}
@@ -97,10 +98,14 @@ bare-zone = held-zone no4
 pub clear-zone : zoneOf clear ≡ noNames
 clear-zone = zone-none free (unfold free used in refl)
 
--- The name is spelled alike whatever its addresses are, and where there is none nothing is.
+-- The name is spelled alike whatever its addresses are; how; and where there is none nothing is.
 pub held-spelled : (s t : Set4) → spellingOf (oneName (heldWith s)) ≡ spellingOf (oneName (heldWith t))
 unfolding spellingOf withKey heldWith used
 held-spelled s t = refl
+
+pub one-spelled : (s : Set4) (k : Octets) → spellingOf (oneName (heldWith s)) k ≡ cond (sameOctets pipe k) (some (nameOf pipeName)) none
+unfolding spellingOf
+one-spelled s k = unfold withKey others in rw (held-used s, held-key s, with-free spellsAs 63 k) (unfold heldWith in refl)
 
 pub clear-spelled : (k : Octets) → spellingOf clear k ≡ none
 unfolding spellingOf others
