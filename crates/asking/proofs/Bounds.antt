@@ -4,18 +4,15 @@ use mathlib.Core.Path.{_≡_, refl, sym, _∙_, ap, subst}
 use mathlib.Core.Bool.{Bool, true, false, cond, not, _&&_}
 use mathlib.Core.List.{List}
 use mathlib.Core.Option.{Option, some}
-use Prim.Native.Nat.{ℕ, suc, _+_, _≤_, _<_}
+use Prim.Native.Nat.{ℕ, suc, _+_, _*_, _≤_, _<_}
 use native.Mathlib.Decide.{ℕ-discrete}
 use native.Mathlib.Omega.{arith}
-use lib.Dec.{ltb}
 use lib.ListN.{getElem?, set}
-use borrow.Author.Tests.{eq-eqb, ne-eqb, lt-ltb, le-ltb, ltb-true}
+use borrow.Author.Tests.{eq-eqb, ne-eqb, le-leb, lt-leb, lt-ltb, le-ltb, ltb-true}
 use borrow.Table.Steps.{cases}
-use Rattle.octets.specs.Compare.{sameOctets}
 use Rattle.octets.specs.Count.{Octets}
-use Rattle.dname.specs.Name.{key}
 use Rattle.update.specs.Rules.{Zone, Form, there, atKey}
-use Rattle.job.specs.Jobs.{add, Arguments, Stage, beforeA, Job, possible, firstStage, fresh, State, step}
+use Rattle.job.specs.Jobs.{add, Arguments, gaveUp, Stage, beforeA, ended, Job, possible, firstStage, fresh, State, step}
 use Rattle.serial.specs.Demand.{Calls, Promises, going, Steps, start, stepped, refused, ownSteps}
 use Rattle.serial.specs.Running.{running}
 use Rattle.serial.specs.OnOctets.{onOctets}
@@ -24,68 +21,73 @@ use Rattle.serial.proofs.Demand.{Sent, Begins, begins, along, counts}
 use Rattle.serial.proofs.InTime.{regular}
 use Rattle.serial.proofs.Running.{kept-promises}
 use Rattle.serial.proofs.OnOctets.{octets-promises}
-use Rattle.asking.specs.Asking.{isSecond, endedGone, deletes, deletions, Add, stage, name, requests, deletedBetween, most, mostGoing, Asking, TakesName}
-use Rattle.asking.proofs.NameLaws.{told}
+use Rattle.asking.specs.Asking.{deletes, begun, unfinished, deletions, Add, stage, name, requests, deletedBetween, most, mostGoing, Asking, TakesName}
+use Rattle.asking.proofs.NameLaws.{no-deletion, told}
 use Rattle.asking.proofs.Telling.{Tells, own, not-second, other, idle, tells-so, at-most, still-going, gave-up, six}
 
 -- ---- a step that deletes a name takes it from the zone, and no other step does
 
 pub takes-name : (C : Calls) → Promises C → TakesName C
-unfolding deletes
 takes-name C P z k r p q n =
-    subst (λ (s : Stage). ((isSecond (C .jobOf k .stage) && endedGone s) && about) ≡ (there (atKey n (C .zoneOf z)) && not (there (atKey n (C .zoneOf (C .zone r))))))
+    subst (λ (s : Stage). deletes n (C .jobOf k) s ≡ (there (atKey n (C .zoneOf z)) && not (there (atKey n (C .zoneOf (C .zone r))))))
     (ap (λ (u : Job). u .stage) (sym (P .jobAfter z k r p q)))
-    (subst (λ (y : Zone). ((isSecond (C .jobOf k .stage) && endedGone (w .stage)) && about) ≡ (there (atKey n (C .zoneOf z)) && not (there (atKey n y))))
+    (subst (λ (y : Zone). deletes n (C .jobOf k) (w .stage) ≡ (there (atKey n (C .zoneOf z)) && not (there (atKey n y))))
     (sym (P .zoneAfter z k r p q)) (told (C .jobOf k .arguments) (C .zoneOf z) n (C .jobOf k .stage)))
   where
-    about : Bool
-    about = sameOctets (key (C .jobOf k .arguments .update .name)) (key n)
-
     w : State
     w = step (C .jobOf k .arguments) (C .zoneOf z) (C .jobOf k .stage)
 
--- ---- what a step adds to the deletions of a name
+-- ---- between the first request and the last
 
-module _ (C : Calls) where
-  -- what a step adds to the deletions of a name, N requests having been sent, of all m
-  abbrev adds : Octets → C .J → C .R → ℕ → ℕ → ℕ
-  adds n k r N m = cond (deletes C n k r && (ltb 0 N && ltb N m)) 1 0
+begun-after : (N : ℕ) → 0 < N → begun N ≡ true
+unfolding begun
+begun-after N l = omega (arith, lt-ltb, le-leb)
 
-  adds-more : (n : Octets) (k : C .J) (r : C .R) (N m : ℕ) → adds n k r N m ≤ adds n k r N (suc m)
-  adds-more n k r N m = go (deletes C n k r) (ltb 0 N) (ltb N m) refl
-    where
-      go : (x y t : Bool) → ltb N m ≡ t → cond (x && (y && t)) 1 0 ≤ cond (x && (y && ltb N (suc m))) 1 0
-      go true true true e = rw (lt-ltb N (suc m) (let l : N < m = ltb-true N m e in omega arith)) (omega arith)
-      go true true false e = omega arith
-      go true false t e = omega arith
-      go false y t e = omega arith
+unfinished-before : (N : ℕ) → unfinished N (suc N) ≡ true
+unfolding unfinished
+unfinished-before N = omega (arith, lt-ltb, le-leb)
 
-  -- the last request has been sent
-  adds-none : (n : Octets) (k : C .J) (r : C .R) (N : ℕ) → adds n k r N N ≡ 0
-  adds-none n k r N = rw (le-ltb N N (omega arith)) (go (deletes C n k r) (ltb 0 N))
-    where
-      go : (x y : Bool) → _≡_ {A = ℕ} (cond (x && (y && false)) 1 0) 0
-      go true true = refl
-      go true false = refl
-      go false y = refl
+finished : (N : ℕ) → unfinished N N ≡ false
+unfolding unfinished
+finished N = omega (arith, le-ltb, lt-leb)
 
-  -- there will be one more
-  adds-one : (n : Octets) (k : C .J) (r : C .R) (N : ℕ) → 0 < N → deletes C n k r ≡ true → adds n k r N (suc N) ≡ 1
-  adds-one n k r N l e = rw (e, lt-ltb 0 N l, lt-ltb N (suc N) (omega arith)) refl
+unfinished-more : (N m : ℕ) → unfinished N m ≡ true → unfinished N (suc m) ≡ true
+unfolding unfinished
+unfinished-more N m e = omega (arith, lt-ltb, ltb-true)
 
-  adds-own : (n : Octets) (k : C .J) (r : C .R) (N m : ℕ) → isSecond (C .jobOf k .stage) ≡ false → adds n k r N m ≡ 0
-  unfolding deletes
-  adds-own n k r N m e = rw e refl
+-- what a step adds to the deletions, N requests of m having been sent
+abbrev adds : Bool → ℕ → ℕ → ℕ
+adds deleted N m = cond (deleted && (begun N && unfinished N m)) 1 0
 
-  module _ (z₀ : C .Z) (ks₀ : List (C .J)) where
-    deletions-more : {z : C .Z} {ks : List (C .J)} (l : Steps C z₀ ks₀ z ks) (i : ℕ) (n : Octets) (m : ℕ) → deletions C l i n m ≤ deletions C l i n (suc m)
-    unfolding deletions
-    deletions-more start i n m = omega arith
-    deletions-more (refused l y k r p q) i n m = deletions-more l i n m
-    deletions-more (stepped l x k r g p q) i n m =
-        let a : deletions C l i n m ≤ deletions C l i n (suc m) = deletions-more l i n m in
-        let b : adds n k r (ownSteps C l i) m ≤ adds n k r (ownSteps C l i) (suc m) = adds-more n k r (ownSteps C l i) m in
-        omega arith
+adds-more : (d : Bool) (N m : ℕ) → adds d N m ≤ adds d N (suc m)
+adds-more d N m = go d (begun N) (unfinished N m) refl
+  where
+    go : (d b u : Bool) → unfinished N m ≡ u → cond (d && (b && u)) 1 0 ≤ cond (d && (b && unfinished N (suc m))) 1 0
+    go true true true e = rw (unfinished-more N m e) (omega arith)
+    go true true false e = omega arith
+    go true false u e = omega arith
+    go false b u e = omega arith
+
+adds-none : (d : Bool) (N : ℕ) → adds d N N ≡ 0
+adds-none d N = rw (finished N) (go d (begun N))
+  where
+    go : (d b : Bool) → _≡_ {A = ℕ} (cond (d && (b && false)) 1 0) 0
+    go true true = refl
+    go true false = refl
+    go false b = refl
+
+adds-one : (d : Bool) (N : ℕ) → 0 < N → d ≡ true → adds d N (suc N) ≡ 1
+adds-one d N l e = rw (e, begun-after N l, unfinished-before N) refl
+
+module _ (C : Calls) (z₀ : C .Z) (ks₀ : List (C .J)) where
+  deletions-more : {z : C .Z} {ks : List (C .J)} (l : Steps C z₀ ks₀ z ks) (i : ℕ) (n : Octets) (m : ℕ) → deletions C l i n m ≤ deletions C l i n (suc m)
+  unfolding deletions
+  deletions-more start i n m = omega arith
+  deletions-more (refused l y k r p q) i n m = deletions-more l i n m
+  deletions-more (stepped l x k r g p q) i n m =
+      let a : deletions C l i n m ≤ deletions C l i n (suc m) = deletions-more l i n m in
+      let b = adds-more (deletes n (C .jobOf k) (C .jobOf (C .job r) .stage)) (ownSteps C l i) m in
+      omega arith
 
 -- ---- along the list
 
@@ -122,31 +124,28 @@ module _ (C : Calls) (P : Promises C) (js : List Arguments) (z₀ : C .Z) (ks₀
       abbrev D : ℕ → ℕ
       D = deletions C l i n
 
-      counted : (m : ℕ) → deletions C next i n m ≡ D m + adds C n j r N m
-      unfolding deletions
-      counted m = refl
+      abbrev del : Bool
+      del = deletes n (C .jobOf j) (C .jobOf (C .job r) .stage)
 
       -- a step of another job
       by-other : ¬ (i ≡ x) → (k : C .J) → getElem? ks i ≡ some k → So l k → So next k
+      unfolding deletions
       by-other m k e h =
           tells-so {s = C .jobOf k .stage} {t = standsIn (C .zone r)} refl refl (sym last) (sym now)
-          (other (C .jobOf k .stage) (standsIn z) (standsIn (C .zone r)) N (D N) (D (suc N)) (D (suc N) + adds C n j r N (suc N)) (counts C P js z₀ ks₀ g₀ b₀ l i k e)
+          (other (C .jobOf k .stage) (standsIn z) (standsIn (C .zone r)) N (D N) (D (suc N)) (D (suc N) + adds del N (suc N)) (counts C P js z₀ ks₀ g₀ b₀ l i k e)
           (deletions-more C z₀ ks₀ l i n N) (omega arith) taken h)
         where
           same : ownSteps C next i ≡ N
           same = unfold ownSteps in rw (ne-eqb x i (λ y. m (sym y))) (omega arith)
 
           last : deletions C next i n (ownSteps C next i) ≡ D N
-          last = ap (deletions C next i n) same ∙ counted N ∙ (let y : adds C n j r N N ≡ 0 = adds-none C n j r N in omega arith)
+          last = ap (deletions C next i n) same ∙ (let y : adds del N N ≡ 0 = adds-none del N in omega arith)
 
-          now : deletions C next i n (suc (ownSteps C next i)) ≡ D (suc N) + adds C n j r N (suc N)
-          now = ap (λ (v : ℕ). deletions C next i n (suc v)) same ∙ counted (suc N)
+          now : deletions C next i n (suc (ownSteps C next i)) ≡ D (suc N) + adds del N (suc N)
+          now = ap (λ (v : ℕ). deletions C next i n (suc v)) same
 
-          taken : standsIn z ≡ true → standsIn (C .zone r) ≡ false → 0 < N → D (suc N) < D (suc N) + adds C n j r N (suc N)
-          taken t u o =
-              let d : deletes C n j r ≡ true = takes-name C P z j r p q n ∙ rw (t, u) refl in
-              let y : adds C n j r N (suc N) ≡ 1 = adds-one C n j r N o d in
-              omega arith
+          taken : standsIn z ≡ true → standsIn (C .zone r) ≡ false → 0 < N → D (suc N) < D (suc N) + adds del N (suc N)
+          taken t u o = let y : adds del N (suc N) ≡ 1 = adds-one del N o (takes-name C P z j r p q n ∙ rw (t, u) refl) in omega arith
 
       -- a step of its own
       module _ (own-step : x ≡ i) (h : So l j) where
@@ -163,7 +162,8 @@ module _ (C : Calls) (P : Promises C) (js : List Arguments) (z₀ : C .Z) (ks₀
         stage-is = ap (λ (u : Arguments). step u (C .zoneOf z) s .stage) (sym is-a) ∙ ap (λ (u : Job). u .stage) (sym (P .jobAfter z j r p q))
 
         none-deleted : (m : ℕ) → deletions C next i n m ≡ D m
-        none-deleted m = counted m ∙ (let y : adds C n j r N m ≡ 0 = adds-own C n j r N m (not-second s (standsIn z) (D N) (D (suc N)) h) in omega arith)
+        unfolding deletions
+        none-deleted m = rw (no-deletion (C .jobOf j .arguments) n s (C .jobOf (C .job r) .stage) (rw (not-second s (standsIn z) (D N) (D (suc N)) h) refl)) (omega arith)
 
         sends : going s ≡ true → So next (C .job r)
         sends o =
@@ -205,7 +205,17 @@ module _ (C : Calls) (P : Promises C) (a : Add C) where
   abbrev first : Begins C (a .arguments) (a .firstJobs)
   first = begins C P (a .arguments) (a .firstJobs) (a .freshJobs)
 
-  tells : Tells (stage C a) (there (atKey (name C a) (C .zoneOf (a .lastZone)))) (deletedBetween C a) (deletions C (a .steps) (a .number) (name C a) (suc (requests C a)))
+  abbrev counted : ℕ
+  counted = deletions C (a .steps) (a .number) (name C a) (requests C a)
+
+  abbrev stands : Bool
+  stands = there (atKey (name C a) (C .zoneOf (a .lastZone)))
+
+  -- deleted up to now
+  abbrev ever : ℕ
+  ever = deletions C (a .steps) (a .number) (name C a) (suc (requests C a))
+
+  tells : Tells (stage C a) stands counted ever
   tells =
       so C P (a .arguments) (a .firstZone) (a .firstJobs) form first (a .number) (C .jobOf (a .job) .arguments)
       (along C P (a .arguments) (a .firstZone) (a .firstJobs) form first (a .steps) (a .number) (a .job) (a .its)) (a .isAdd) (a .steps) (a .job) (a .its)
@@ -216,13 +226,27 @@ module _ (C : Calls) (P : Promises C) (a : Add C) where
   can : possible (stage C a) ≡ true
   can = regular C P (a .arguments) (a .firstZone) (a .firstJobs) (a .freshJobs) (a .steps) (a .number) (a .job) (a .its) .can
 
+  -- each claim, from what the stage tells
+  few : requests C a ≤ most (deletedBetween C a)
+  unfolding most
+  few = let l : requests C a ≤ most counted = at-most (stage C a) stands (requests C a) counted ever tells count in omega arith
+
+  few-six : requests C a ≤ 6
+  few-six = six (stage C a) stands (requests C a) counted ever tells can count
+
+  few-going : going (stage C a) ≡ true → requests C a ≤ mostGoing (deletedBetween C a)
+  unfolding mostGoing
+  few-going o = let l : requests C a ≤ mostGoing counted = still-going (stage C a) stands (requests C a) counted ever o tells count in omega arith
+
+  three : (n : ℕ) → stage C a ≡ ended (gaveUp n) → 3 ≤ deletedBetween C a
+  three n e = let l : 3 ≤ counted = gave-up (stage C a) stands counted ever n e can tells in omega arith
+
 pub asking : (C : Calls) → Promises C → Asking C
-unfolding most mostGoing
 asking C P = record {
-  atMost = λ a. at-most (stage C a) _ (requests C a) (deletedBetween C a) _ (tells C P a) (count C P a);
-  sixAtMost = λ a. six (stage C a) _ (requests C a) (deletedBetween C a) _ (tells C P a) (can C P a) (count C P a);
-  stillGoing = λ a o. still-going (stage C a) _ (requests C a) (deletedBetween C a) _ o (tells C P a) (count C P a);
-  gaveUpAfter = λ a n e. gave-up (stage C a) _ (deletedBetween C a) _ n e (can C P a) (tells C P a);
+  atMost = few C P;
+  sixAtMost = λ a. let l : requests C a ≤ 6 = few-six C P a in omega arith;
+  stillGoing = few-going C P;
+  gaveUpAfter = λ a n e. let l : 3 ≤ deletedBetween C a = three C P a n e in omega arith;
   reported = λ a e n p q. subst (λ (s : Stage). Sent s (requests C a)) p (count C P a) n q;
 }
 

@@ -1,7 +1,9 @@
--- What a step does to whether a name stands; what an add's stage tells of deletions; the bounds.
+-- What a step does to whether a name stands.
 pub mod NameLaws
-pub mod Telling
-pub mod Bounds
+-- Lists of steps that reach the bounds.
 pub mod RoundSteps
 pub mod Rounds
 pub mod Reached
+-- What an add's stage tells of deletions, and the bounds.
+pub mod Telling
+pub mod Bounds

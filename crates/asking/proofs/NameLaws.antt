@@ -13,7 +13,7 @@ use Rattle.job.specs.Jobs.{Arguments, gone, Stage, beforeA, beforeB, beforeFirs
 use Rattle.octets.proofs.CompareLaws.{same-true}
 use Rattle.update.proofs.ZoneLaws.{address, option-case, put, put-has}
 use Rattle.serial.proofs.RequestLaws.{state, step-A-new, step-A-full, step-A-there, step-B-absent, step-B-other, step-B-full, step-B-done, step-1-other, step-1-own, step-2-kept, step-2-gone, step-1-absent, step-2-absent}
-use Rattle.asking.specs.Asking.{isSecond, endedGone}
+use Rattle.asking.specs.Asking.{isSecond, endedGone, deletes}
 
 -- ---- what stands at a name that is written to, or not
 
@@ -25,25 +25,38 @@ never-both : (b : Bool) → false ≡ (b && false)
 never-both true = refl
 never-both false = refl
 
+-- ---- which requests delete a name
+
+module _ (j : Arguments) (n : Octets) where
+  pub no-deletion : (s t : Stage) → (isSecond s && endedGone t) ≡ false → deletes n (record { arguments = j; stage = s }) t ≡ false
+  unfolding deletes
+  no-deletion s t e = rw e refl
+
+  pub deletion : deletes n (record { arguments = j; stage = beforeSecond }) (ended gone) ≡ sameOctets (key (j .update .name)) (key n)
+  unfolding deletes
+  deletion = refl
+
+-- ---- each step
+
 module _ (j : Arguments) (z : Zone) (n : Octets) where
   -- the step's name is the name
   abbrev about : Bool
   about = sameOctets (key (j .update .name)) (key n)
 
-  -- A step to this state deleted the name, and the name stood before it and stands no more.
+  -- A step to this state deleted the name exactly if the name stood before it and does not stand after it.
   abbrev pub Told : Stage → State → Type 0
-  Told s w = ((isSecond s && endedGone (w .stage)) && about) ≡ (there (atKey n z) && not (there (atKey n (w .zone))))
+  Told s w = deletes n (record { arguments = j; stage = s }) (w .stage) ≡ (there (atKey n z) && not (there (atKey n (w .zone))))
 
   by : (s : Stage) {w : State} → step j z s ≡ w → Told s w → Told s (step j z s)
   by s e h = subst (Told s) (sym e) h
 
   -- nothing is written
   idle : (s : Stage) {t : Stage} → step j z s ≡ state z t → (isSecond s && endedGone t) ≡ false → Told s (step j z s)
-  idle s e g = by s e (rw g (not-both (there (atKey n z))))
+  idle s {t} e g = by s e (no-deletion j n s t g ∙ not-both (there (atKey n z)))
 
   -- a host is written at the step's name, which so stands
   wrote : (s : Stage) {t : Stage} (h : Host) → step j z s ≡ state (put (j .update .name) (some h) z) t → (isSecond s && endedGone t) ≡ false → Told s (step j z s)
-  wrote s h e g = by s e (rw (g, put-has (j .update .name) (some h) z (key n)) (go about))
+  wrote s {t} h e g = by s e (no-deletion j n s t g ∙ rw (put-has (j .update .name) (some h) z (key n)) (go about))
     where
       go : (b : Bool) → false ≡ (there (atKey n z) && not (there (cond b (some h) (atKey n z))))
       go true = never-both (there (atKey n z))
@@ -51,7 +64,7 @@ module _ (j : Arguments) (z : Zone) (n : Octets) where
 
   -- the step's name, which stood, is deleted
   deleted : (h : Host) → atName (j .update) z ≡ some h → Told beforeSecond (state (put (j .update .name) none z) (ended gone))
-  deleted h e = rw (put-has (j .update .name) none z (key n)) (cases about here elsewhere)
+  deleted h e = deletion j n ∙ rw (put-has (j .update .name) none z (key n)) (cases about here elsewhere)
     where
       here : about ≡ true → about ≡ (there (atKey n z) && not (there (cond about none (atKey n z))))
       here c = rw (c, ap there (ap (z .at) (sym (same-true (key (j .update .name)) (key n) c)) ∙ e)) refl

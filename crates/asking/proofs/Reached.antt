@@ -17,7 +17,7 @@ use Rattle.serial.proofs.Cases.{xAdds}
 use Rattle.serial.proofs.Running.{taken}
 use Rattle.serial.proofs.P12Zones.{full, clear, full-value, full-formed}
 use Rattle.serial.proofs.P12Runs.{kx, ky, new-x, new-y, y-is, x-values, y-values}
-use Rattle.asking.specs.Asking.{deletions, Add, stage, requests, deletedBetween}
+use Rattle.asking.specs.Asking.{begun, unfinished, deletions, Add, stage, requests, deletedBetween}
 use Rattle.asking.specs.Reached.{Values, Held, Reached, AllReached, Tight}
 use Rattle.asking.proofs.RoundSteps.{kx⁺, new-x⁺, x⁺-values}
 use Rattle.asking.proofs.Rounds.{kx₃, kx⁺₂, So, YAt, Octet, within, leaves, adds-again, round, back-is, p12, refused-is}
@@ -145,15 +145,19 @@ twice k =
 -- ---- the four
 
 two : Reached (conflict 2) 2 0
+unfolding begun unfinished
 two = reached 1 (p12 0 (omega arith) ky y-first (all 1) (again 0) 2 refl) (conflict 2) (refused-is 0 (omega arith) ky y-first) 0 refl
 
 four : Reached (conflict 4) 4 1
+unfolding begun unfinished
 four = reached 2 (p12 2 (omega arith) y-2 y-2-is (all 2) (once 0) 4 refl) (conflict 4) (refused-is 2 (omega arith) y-2 y-2-is) 1 refl
 
 six : Reached (conflict 6) 6 2
+unfolding begun unfinished
 six = reached 3 (p12 4 (omega arith) y-4 y-4-is (all 3) (twice 0) 6 refl) (conflict 6) (refused-is 4 (omega arith) y-4 y-4-is) 2 refl
 
 given : Reached (gaveUp 6) 6 3
+unfolding begun unfinished
 given =
     reached 4 (leaves (all 4) (adds-again (all 4) (round 4 (omega arith) y-4 y-4-is (all 4) (ended (gaveUp 6)) leads-6 octet-6 (twice 1) 6 refl) 7 refl) 8 refl)
     (gaveUp 6) (back-is 4 (omega arith) y-4 y-4-is (ended (gaveUp 6)) leads-6 octet-6) 3 refl

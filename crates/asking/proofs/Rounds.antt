@@ -5,10 +5,9 @@ use mathlib.Core.List.{List, [], _∷_}
 use mathlib.Core.Option.{some}
 use Prim.Native.Nat.{ℕ, suc, _+_, _≤_, _<_}
 use native.Mathlib.Omega.{arith}
-use lib.Dec.{eqb, ltb}
+use lib.Dec.{eqb}
 use lib.ListN.{getElem?, set}
 use borrow.Author.Tests.{eq-eqb, ne-eqb, lt-ltb}
-use Rattle.octets.specs.Compare.{sameOctets}
 use Rattle.octets.proofs.CompareLaws.{same-self}
 use Rattle.dname.specs.Name.{key}
 use Rattle.zone.specs.declared.Zone.{Zone}
@@ -16,7 +15,7 @@ use Rattle.update.specs.Rules as rules
 use Rattle.update.specs.Rules.{NXDOMAIN}
 use Rattle.job.specs.declared.job.Job.{Job}
 use Rattle.job.specs.Jobs as jobs
-use Rattle.job.specs.Jobs.{Stage, beforeA, beforeB, ended, conflict, done, gone, after}
+use Rattle.job.specs.Jobs.{Stage, beforeA, beforeB, beforeSecond, ended, conflict, done, gone, after}
 use Rattle.job.specs.Meaning.{jobOf, atStage, stageNumber, stageCount}
 use Rattle.step.specs.declared.Stepped.{Stepped}
 use Rattle.serial.specs.Demand.{going, Steps, start, stepped, ownSteps}
@@ -26,8 +25,9 @@ use Rattle.serial.proofs.ListLaws.{set-same}
 use Rattle.serial.proofs.Running.{Ok}
 use Rattle.serial.proofs.P12Zones.{full, bare, clear, full-value, bare-value, clear-value}
 use Rattle.serial.proofs.P12Runs.{Turn, meets, next-is, next-ok, kx, kx₂, x-first, x-second, x-values, asks-bare, conflicts-bare}
-use Rattle.asking.specs.Asking.{isSecond, endedGone, deletes, deletions}
+use Rattle.asking.specs.Asking.{isSecond, endedGone, deletes, begun, unfinished, deletions}
 use Rattle.asking.specs.Reached.{Held}
+use Rattle.asking.proofs.NameLaws.{no-deletion, deletion}
 use Rattle.asking.proofs.RoundSteps.{kx⁺, x-adds-again, asks-clear, value-at, x⁺-values}
 
 -- X's remove that has ended gone, and X's add that is done.
@@ -38,8 +38,14 @@ abbrev pub kx⁺₂ : Job
 kx⁺₂ = atStage kx⁺ (ended (done 1))
 
 -- What a deletion counts where N requests have been sent, of m.
+abbrev between : ℕ → ℕ → Bool
+between N m = begun N && unfinished N m
+
 abbrev pub within : ℕ → ℕ → ℕ
-within N m = cond (ltb 0 N && ltb N m) 1 0
+within N m = cond (between N m) 1 0
+
+x-deletes-pipe : deletes pipe (record { arguments = xRemoves; stage = beforeSecond }) (ended gone) ≡ true
+x-deletes-pipe = deletion xRemoves pipe ∙ (unfold xRemoves in same-self (key pipe))
 
 module _ (ks₀ : List Job) where
   -- A list of steps as far as this zone and these jobs. Job 0 has sent N requests, and pipe was deleted D m times while it had sent at least
@@ -68,44 +74,34 @@ module _ (ks₀ : List Job) where
     unfolding ownSteps
     longer-sent = ap (λ (n : ℕ). n + cond (eqb i 0 && going (jobOf j .stage)) 1 0) (so .sent) ∙ ap (λ (k : jobs.Job). N + cond (eqb i 0 && going (k .stage)) 1 0) (t .is)
 
-    deletes-is : deletes running pipe j r ≡ ((isSecond (m .stage) && endedGone s) && sameOctets (key (m .arguments .update .name)) (key pipe))
-    unfolding deletes
-    deletes-is =
-        ap (λ (k : jobs.Job). (isSecond (k .stage) && endedGone (jobOf (atStage j s) .stage)) && sameOctets (key (k .arguments .update .name)) (key pipe)) (t .is)
-        ∙ ap (λ (k : jobs.Job). (isSecond (m .stage) && endedGone (k .stage)) && sameOctets (key (m .arguments .update .name)) (key pipe)) (next-is t)
+    -- whether it deletes the name, by the rules
+    abbrev del : Bool
+    del = deletes pipe m s
 
-    longer-deleted : (v : ℕ) → deletions running longer 0 pipe v ≡ D v + cond (deletes running pipe j r && (ltb 0 N && ltb N v)) 1 0
+    deletes-is : deletes pipe (jobOf j) (jobOf (atStage j s) .stage) ≡ del
+    deletes-is = ap (λ (k : jobs.Job). deletes pipe k (jobOf (atStage j s) .stage)) (t .is) ∙ ap (λ (k : jobs.Job). deletes pipe m (k .stage)) (next-is t)
+
+    longer-deleted : (v : ℕ) → deletions running longer 0 pipe v ≡ D v + cond (del && between N v) 1 0
     unfolding deletions
     longer-deleted v =
-        ap (λ (d : ℕ). d + cond (deletes running pipe j r && (ltb 0 (ownSteps running (so .list) 0) && ltb (ownSteps running (so .list) 0) v)) 1 0) (so .deleted v)
-        ∙ ap (λ (n : ℕ). D v + cond (deletes running pipe j r && (ltb 0 n && ltb n v)) 1 0) (so .sent)
+        ap (λ (d : ℕ). d + cond (deletes pipe (jobOf j) (jobOf (atStage j s) .stage) && between (ownSteps running (so .list) 0) v) 1 0) (so .deleted v)
+        ∙ ap (λ (n : ℕ). D v + cond (deletes pipe (jobOf j) (jobOf (atStage j s) .stage) && between n v) 1 0) (so .sent)
+        ∙ ap (λ (b : Bool). D v + cond (b && between N v) 1 0) deletes-is
+
+    none-deleted : (isSecond (m .stage) && endedGone s) ≡ false → (v : ℕ) → deletions running longer 0 pipe v ≡ D v
+    none-deleted n v = longer-deleted v ∙ rw (no-deletion (m .arguments) pipe (m .stage) s n) (omega arith)
 
     -- a request of job 0
-    pub own : i ≡ 0 → going (m .stage) ≡ true → isSecond (m .stage) ≡ false → So w (set ks i (atStage j s)) (suc N) D
-    own e o n = record {
-      list = longer;
-      held = longer-held;
-      sent = longer-sent ∙ rw (eq-eqb i 0 e, o) (omega arith);
-      deleted = λ v. longer-deleted v ∙ rw (deletes-is, n) (omega arith);
-    }
+    pub own : i ≡ 0 → going (m .stage) ≡ true → (isSecond (m .stage) && endedGone s) ≡ false → So w (set ks i (atStage j s)) (suc N) D
+    own e o n = record { list = longer; held = longer-held; sent = longer-sent ∙ rw (eq-eqb i 0 e, o) (omega arith); deleted = none-deleted n }
 
-    -- a request of another job that deletes no name
+    -- a request of another job, which does not delete the name
     pub quiet : ¬ (i ≡ 0) → (isSecond (m .stage) && endedGone s) ≡ false → So w (set ks i (atStage j s)) N D
-    quiet e n = record {
-      list = longer;
-      held = longer-held;
-      sent = longer-sent ∙ rw (ne-eqb i 0 e) (omega arith);
-      deleted = λ v. longer-deleted v ∙ rw (deletes-is, n) (omega arith);
-    }
+    quiet e n = record { list = longer; held = longer-held; sent = longer-sent ∙ rw (ne-eqb i 0 e) (omega arith); deleted = none-deleted n }
 
-    -- a request of another job that deletes the name
-    pub deletion : ¬ (i ≡ 0) → (isSecond (m .stage) && endedGone s) ≡ true → m .arguments .update .name ≡ pipe → So w (set ks i (atStage j s)) N (λ v. D v + within N v)
-    deletion e n p = record {
-      list = longer;
-      held = longer-held;
-      sent = longer-sent ∙ rw (ne-eqb i 0 e) (omega arith);
-      deleted = λ v. longer-deleted v ∙ rw (deletes-is, n, p, same-self (key pipe)) refl;
-    }
+    -- and one that does
+    pub deleting : ¬ (i ≡ 0) → del ≡ true → So w (set ks i (atStage j s)) N (λ v. D v + within N v)
+    deleting e d = record { list = longer; held = longer-held; sent = longer-sent ∙ rw (ne-eqb i 0 e) (omega arith); deleted = λ v. longer-deleted v ∙ rw d refl }
 
   -- ---- X's requests, Y's add being number 0
 
@@ -115,7 +111,7 @@ module _ (ks₀ : List Job) where
     takes-address so a g = quiet so (suc a) g x-first bare-value (x-values .1) (λ e. omega arith) refl
 
     pub deletes-name : So bare (y ∷ rest) N D → (a : ℕ) → getElem? rest a ≡ some kx₂ → So clear (y ∷ set rest a kx₃) N (λ v. D v + within N v)
-    deletes-name so a g = deletion so (suc a) g x-second clear-value (x-values .2) (λ e. omega arith) refl (unfold xRemoves in refl)
+    deletes-name so a g = deleting so (suc a) g x-second clear-value (x-values .2) (λ e. omega arith) x-deletes-pipe
 
     -- X's add b
     pub adds-again : So clear (y ∷ rest) N D → (b : ℕ) → getElem? rest b ≡ some kx⁺ → So full (y ∷ set rest b kx⁺₂) N D

@@ -14,7 +14,7 @@ use Rattle.serial.specs.Demand.{going}
 use Rattle.serial.proofs.RequestLaws.{step-A-new, step-A-full, step-A-there, step-B-absent, step-B-other, step-B-full, step-B-done}
 use Rattle.serial.proofs.Demand.{Sent}
 use Rattle.serial.proofs.InTime.{few-sent}
-use Rattle.asking.specs.Asking.{isSecond}
+use Rattle.asking.specs.Asking.{isSecond, most, mostGoing}
 
 -- Before request B, which follows a request A that found the name: where the name stands no more, it was deleted since.
 pub record BeforeB (n : ℕ) (stands : Bool) (b d : ℕ) : Type 0 where
@@ -107,9 +107,8 @@ tells-so {s} {s′} {t} {t′} {b} {b′} {c} {c′} p q r v h = subst (λ (w : 
 
 -- ---- what follows of its requests
 
-pub at-most : (s : Stage) (t : Bool) (N b d : ℕ) → Tells s t b d → Sent s N → N ≤ 2 + 2 * b
-at-most (beforeA n) t N b d h c = omega arith
-at-most (beforeB n) t N b d h c = omega (arith, h .few)
+pub at-most : (s : Stage) (t : Bool) (N b d : ℕ) → Tells s t b d → Sent s N → N ≤ most b
+unfolding most
 at-most (ended (done n)) t N b d h c = let e : n ≡ N = c n refl in omega arith
 at-most (ended (conflict n)) t N b d h c = let e : n ≡ N = c n refl in omega arith
 at-most (ended (noRoom n)) t N b d h c = let e : n ≡ N = c n refl in omega arith
@@ -117,10 +116,13 @@ at-most (ended (gaveUp n)) t N b d h c = let e : n ≡ N = c n refl in omega ari
 at-most (ended notOurs) t N b d h c = absurd h
 at-most (ended gone) t N b d h c = absurd h
 at-most (ended kept) t N b d h c = absurd h
+at-most (beforeA n) t N b d h c = omega arith
+at-most (beforeB n) t N b d h c = omega (arith, h .few)
 at-most beforeFirst t N b d h c = absurd h
 at-most beforeSecond t N b d h c = absurd h
 
-pub still-going : (s : Stage) (t : Bool) (N b d : ℕ) → going s ≡ true → Tells s t b d → Sent s N → N ≤ 1 + 2 * b
+pub still-going : (s : Stage) (t : Bool) (N b d : ℕ) → going s ≡ true → Tells s t b d → Sent s N → N ≤ mostGoing b
+unfolding mostGoing
 still-going (beforeA n) t N b d o h c = omega arith
 still-going (beforeB n) t N b d o h c = omega (arith, h .few)
 still-going (ended e) t N b d o h c = absurd (true≢false (sym o))

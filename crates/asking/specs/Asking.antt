@@ -10,12 +10,12 @@ use Rattle.octets.specs.Compare.{sameOctets}
 use Rattle.octets.specs.Count.{Octets}
 use Rattle.dname.specs.Name.{key}
 use Rattle.update.specs.Rules.{there, atKey}
-use Rattle.job.specs.Jobs.{add, Arguments, End, done, conflict, noRoom, gaveUp, notOurs, gone, kept, Stage, beforeA, beforeB, beforeFirst, beforeSecond, ended, sent}
+use Rattle.job.specs.Jobs.{add, Arguments, End, done, conflict, noRoom, gaveUp, notOurs, gone, kept, Stage, beforeA, beforeB, beforeFirst, beforeSecond, ended, Job, sent}
 use Rattle.serial.specs.Demand.{Calls, going, Fresh, Steps, start, stepped, refused, ownSteps}
 
 -- ---- deletions
 
--- A job is about to send its second remove request; a job has ended with its name gone.
+-- The next request of a job is its second remove request; a job has ended with its name gone.
 abbrev pub isSecond : Stage → Bool
 isSecond (beforeA n) = false
 isSecond (beforeB n) = false
@@ -39,15 +39,24 @@ endedGone beforeFirst = false
 endedGone beforeSecond = false
 endedGone (ended e) = isGone e
 
-module _ (C : Calls) where
-  -- A step that deleted a name: the second remove request of a job for the same name, by which the job ended with its name gone.
-  unfoldable pub deletes : Octets → C .J → C .R → Bool
-  deletes n k r = (isSecond (C .jobOf k .stage) && endedGone (C .jobOf (C .job r) .stage)) && sameOctets (key (C .jobOf k .arguments .update .name)) (key n)
+-- The request that brought a job to a stage deleted a name: it was the second remove request of a job for the same name, and the job ended with
+-- its name gone.
+unfoldable pub deletes : Octets → Job → Stage → Bool
+deletes n k after = (isSecond (k .stage) && endedGone after) && sameOctets (key (k .arguments .update .name)) (key n)
 
-  -- How often a name was deleted in a list of steps while job i had sent at least one request, and fewer than m.
+-- A step stands behind a job's first request where the job had sent one before it, and before the last of m where it had not sent all.
+unfoldable pub begun : ℕ → Bool
+begun sent = ltb 0 sent
+
+unfoldable pub unfinished : ℕ → ℕ → Bool
+unfinished sent m = ltb sent m
+
+module _ (C : Calls) where
+  -- How often a name was deleted in a list of steps between the first of the m requests of job i and the last.
   unfoldable pub deletions : {z₀ z : C .Z} {ks₀ ks : List (C .J)} → Steps C z₀ ks₀ z ks → ℕ → Octets → ℕ → ℕ
   deletions start i n m = 0
-  deletions (stepped l x k r g p q) i n m = deletions l i n m + cond (deletes n k r && (ltb 0 (ownSteps C l i) && ltb (ownSteps C l i) m)) 1 0
+  deletions (stepped l x k r g p q) i n m =
+      deletions l i n m + cond (deletes n (C .jobOf k) (C .jobOf (C .job r) .stage) && (begun (ownSteps C l i) && unfinished (ownSteps C l i) m)) 1 0
   deletions (refused l y k r p q) i n m = deletions l i n m
 
 -- ---- an add in a list of steps
@@ -78,8 +87,7 @@ module _ (C : Calls) (a : Add C) where
   abbrev pub requests : ℕ
   requests = ownSteps C (a .steps) (a .number)
 
-  -- r: how often its name was deleted between the first of them and the last. A step stands behind the first where one had been sent before
-  -- it, and before the last where not all had.
+  -- r: how often its name was deleted between the first of them and the last.
   abbrev pub deletedBetween : ℕ
   deletedBetween = deletions C (a .steps) (a .number) name requests
 
@@ -109,4 +117,4 @@ pub record Asking (C : Calls) : Type 0 where
 abbrev pub TakesName : Calls → Type 0
 TakesName C =
     (z : C .Z) (k : C .J) (r : C .R) → C .Step z k r → C .refusal r ≡ 0
-    → (n : Octets) → deletes C n k r ≡ (there (atKey n (C .zoneOf z)) && not (there (atKey n (C .zoneOf (C .zone r)))))
+    → (n : Octets) → deletes n (C .jobOf k) (C .jobOf (C .job r) .stage) ≡ (there (atKey n (C .zoneOf z)) && not (there (atKey n (C .zoneOf (C .zone r)))))
