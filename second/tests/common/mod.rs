@@ -18,6 +18,7 @@ pub mod random;
 pub mod requests;
 pub mod run;
 pub mod stack;
+pub mod step_log;
 pub mod tally;
 pub mod twin;
 pub mod variants;
