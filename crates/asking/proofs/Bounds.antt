@@ -3,9 +3,9 @@
 use mathlib.Core.Path.{_≡_, refl, sym, _∙_, ap, subst}
 use mathlib.Core.Bool.{Bool, true, false, cond, not, _&&_}
 use mathlib.Core.List.{List}
+use mathlib.Core.Logic.{_⊎_, inl, inr}
 use mathlib.Core.Option.{Option, some}
-use Prim.Native.Nat.{ℕ, suc, _+_, _*_, _≤_, _<_}
-use native.Mathlib.Decide.{ℕ-discrete}
+use Prim.Native.Nat.{ℕ, suc, _+_, _≤_, _<_}
 use native.Mathlib.Omega.{arith}
 use lib.ListN.{getElem?, set}
 use borrow.Author.Tests.{eq-eqb, ne-eqb, le-leb, lt-leb, lt-ltb, le-ltb, ltb-true}
@@ -16,7 +16,7 @@ use Rattle.job.specs.Jobs.{add, Arguments, gaveUp, Stage, beforeA, ended, Job, 
 use Rattle.serial.specs.Demand.{Calls, Promises, going, Steps, start, stepped, refused, ownSteps}
 use Rattle.serial.specs.Running.{running}
 use Rattle.serial.specs.OnOctets.{onOctets}
-use Rattle.serial.proofs.ListLaws.{set-same, set-other}
+use Rattle.serial.proofs.ListLaws.{set-which}
 use Rattle.serial.proofs.Demand.{Sent, Begins, begins, along, counts}
 use Rattle.serial.proofs.InTime.{regular}
 use Rattle.serial.proofs.Running.{kept-promises}
@@ -186,15 +186,13 @@ module _ (C : Calls) (P : Promises C) (js : List Arguments) (z₀ : C .Z) (ks₀
     unfolding deletions ownSteps
     so start k e = fresh-tells k e
     so (refused l y j r p q) k e = so l k e
-    so (stepped {z = z} {ks = ks} l x j r g p q) k e = go (ℕ-discrete i x) (λ c d. so l c d)
+    so (stepped {z = z} {ks = ks} l x j r g p q) k e = go (set-which ks x i j (C .job r) k g e) (λ c d. so l c d)
       where
-        go : Dec (i ≡ x) → ((c : C .J) → getElem? ks i ≡ some c → So l c) → So (stepped l x j r g p q) k
-        go (no m) h = let f : getElem? ks i ≡ some k = sym (set-other ks x i (C .job r) m) ∙ e in by-other l x j r g p q m k f (h k f)
-        go (yes m) h =
-            let t : _≡_ {A = Option (C .J)} (some (C .job r)) (some k) = sym (set-same ks x j (C .job r) g) ∙ ap (getElem? (set ks x (C .job r))) (sym m) ∙ e in
-            let c : C .job r ≡ k = cc in
-            let f : So l j = h j (ap (getElem? ks) m ∙ g) in
-            subst (So (stepped l x j r g p q)) c (cases (going (C .jobOf j .stage)) (sends l x j r g p q (sym m) f) (stays l x j r g p q (sym m) f))
+        go : ((¬ (i ≡ x)) × (getElem? ks i ≡ some k)) ⊎ ((i ≡ x) × (C .job r ≡ k)) → ((c : C .J) → getElem? ks i ≡ some c → So l c) → So (stepped l x j r g p q) k
+        go (inl m) h = by-other l x j r g p q (m .0) k (m .1) (h k (m .1))
+        go (inr m) h =
+            let f : So l j = h j (ap (getElem? ks) (m .0) ∙ g) in
+            subst (So (stepped l x j r g p q)) (m .1) (cases (going (C .jobOf j .stage)) (sends l x j r g p q (sym (m .0)) f) (stays l x j r g p q (sym (m .0)) f))
 
 -- ---- the claim
 

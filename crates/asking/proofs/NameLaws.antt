@@ -1,8 +1,7 @@
 -- What a step does to whether a name stands. Assumes nothing.
 use mathlib.Core.Path.{_≡_, refl, sym, _∙_, ap, subst}
 use mathlib.Core.Bool.{Bool, true, false, cond, not, _&&_}
-use mathlib.Core.Option.{Option, none, some}
-use Prim.Native.Nat.{ℕ}
+use mathlib.Core.Option.{none, some}
 use lib.Dec.{ltb}
 use borrow.Table.Steps.{cases}
 use Rattle.octets.specs.Compare.{sameOctets}

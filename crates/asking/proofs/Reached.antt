@@ -1,6 +1,6 @@
 -- The lists that reach the bounds, of the calls that run. X removes its address and adds it again, so that the name is deleted before Y's first
 -- request; then come the rounds; and the name is deleted once more after Y's last request. Assumes nothing.
-use mathlib.Core.Path.{_≡_, refl, sym, _∙_, ap, subst}
+use mathlib.Core.Path.{_≡_, refl, _∙_, ap, subst}
 use mathlib.Core.List.{List, [], _∷_}
 use Prim.Native.Nat.{ℕ, zero, suc, _+_, _≤_}
 use native.Mathlib.Omega.{arith}
@@ -8,7 +8,7 @@ use Rattle.octets.specs.Count.{Octets}
 use Rattle.update.specs.Rules.{NXDOMAIN}
 use Rattle.job.specs.declared.job.Job.{Job}
 use Rattle.job.specs.Jobs as jobs
-use Rattle.job.specs.Jobs.{add, Arguments, End, Stage, beforeA, beforeB, ended, conflict, gaveUp, after}
+use Rattle.job.specs.Jobs.{Arguments, End, beforeA, beforeB, ended, conflict, gaveUp, after}
 use Rattle.job.specs.Meaning.{jobOf, atStage, stageNumber, stageCount}
 use Rattle.serial.specs.Demand.{Fresh, noJob, oneMore, start, ownSteps}
 use Rattle.serial.specs.Running.{running}

@@ -2,14 +2,14 @@
 use mathlib.Core.Path.{_≡_, refl, sym, _∙_, ap, fun-ext}
 use mathlib.Core.Bool.{Bool, true, false, cond, _&&_}
 use mathlib.Core.List.{List, [], _∷_, _++_}
-use mathlib.Core.Option.{Option, none, some}
+use mathlib.Core.Option.{none, some}
 use Prim.Native.Nat.{ℕ, suc}
 use native.Mathlib.Omega.{arith}
 use lib.Dec.{ltb}
 use Rattle.octets.proofs.BoolLaws.{and-right}
 use Rattle.octets.specs.Compare.{sameOctets}
 use Rattle.octets.specs.Count.{Octets, member}
-use Rattle.addresses.specs.Addresses.{Family, four, six, nothing, including}
+use Rattle.addresses.specs.Addresses.{Family, four, six, including}
 use Rattle.dname.specs.Name.{key, labelsOf, limited, shapeOf, isFull, nameOf}
 use Rattle.update.specs.Rules as rules
 use Rattle.update.specs.Rules.{NXDOMAIN, with, withName, withAddress, newHost, requestA, requestB}
@@ -28,7 +28,7 @@ use Rattle.serial.specs.Running.{NewCall, newAdd}
 use Rattle.serial.proofs.Cases.{xAdds}
 use Rattle.serial.proofs.Running.{Ok, kept-promises, taken}
 use Rattle.serial.proofs.OneName.{one4, octets-append}
-use Rattle.serial.proofs.P12Zones.{pipeName, ofX, heldWith, full, clear, full-formed, clear-formed, full-zone, clear-zone, one-spelled, clear-spelled}
+use Rattle.serial.proofs.P12Zones.{pipeName, ofX, full, clear, full-formed, clear-formed, full-zone, clear-zone, one-spelled, clear-spelled}
 use Rattle.serial.proofs.P12Steps.{state}
 use Rattle.serial.proofs.P12Runs.{Turn, addressX, job-value}
 

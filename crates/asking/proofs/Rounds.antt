@@ -1,5 +1,5 @@
 -- Rounds of steps in which Y's add is sent back to request A, with the count of its requests and of the deletions between them. Assumes nothing.
-use mathlib.Core.Path.{_≡_, refl, sym, _∙_, ap}
+use mathlib.Core.Path.{_≡_, refl, _∙_, ap}
 use mathlib.Core.Bool.{Bool, true, false, cond, _&&_}
 use mathlib.Core.List.{List, [], _∷_}
 use mathlib.Core.Option.{some}
@@ -18,7 +18,7 @@ use Rattle.job.specs.Jobs as jobs
 use Rattle.job.specs.Jobs.{Stage, beforeA, beforeB, beforeSecond, ended, conflict, done, gone, after}
 use Rattle.job.specs.Meaning.{jobOf, atStage, stageNumber, stageCount}
 use Rattle.step.specs.declared.Stepped.{Stepped}
-use Rattle.serial.specs.Demand.{going, Steps, start, stepped, ownSteps}
+use Rattle.serial.specs.Demand.{going, Steps, stepped, ownSteps}
 use Rattle.serial.specs.Running.{running}
 use Rattle.serial.specs.P12.{pipe, xRemoves, yAdds, ZoneValue, areOctets, JobValue}
 use Rattle.serial.proofs.ListLaws.{set-same}

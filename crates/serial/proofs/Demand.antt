@@ -17,7 +17,7 @@ use Rattle.update.specs.Rules.{Zone, Form, keepOthers, Answer, success, NXDOMAI
 use Rattle.job.specs.Jobs.{Kind, add, remove, Arguments, End, gaveUp, notOurs, gone, kept, Stage, beforeA, beforeB, beforeFirst, beforeSecond, ended, Job, firstStage, fresh, after, passed, afterFirst, afterSecond, step, sent}
 use Rattle.serial.specs.Demand.{Calls, Promises, going, Fresh, noJob, oneMore, Steps, start, stepped, refused, ownSteps, ChangedNothing, Moment, EndedFirst, verdict, stands, times, In, Before, InTurn, nobody, next, Explains, Story, Demand3, Stronger, LeftOutIdle}
 use Rattle.update.proofs.ZoneLaws.{address, some≢none, option-case, zone-eq, put-off}
-use Rattle.serial.proofs.ListLaws.{set-same, set-other}
+use Rattle.serial.proofs.ListLaws.{set-same, set-other, set-which}
 use Rattle.serial.proofs.RequestLaws.{form-step, whole, whole-sends, outcome, quiet}
 use Rattle.serial.proofs.OrderLaws.{serial, Agree, form-serial, times-in}
 use Rattle.serial.proofs.Placing.{Ended, Fits, stand, stand-same, stand-other, ended≢2, At, Inv, Real, move, shown, emptied}
@@ -143,14 +143,11 @@ module _ (C : Calls) (js : List Arguments) where
   Along ks = (i : ℕ) (k : C .J) → getElem? ks i ≡ some k → getElem? js i ≡ some (C .jobOf k .arguments)
 
   along-set : (ks : List (C .J)) (i : ℕ) (a b : C .J) → getElem? ks i ≡ some a → C .jobOf b .arguments ≡ C .jobOf a .arguments → Along ks → Along (set ks i b)
-  along-set ks i a b e p h x k r = go (ℕ-discrete x i)
+  along-set ks i a b e p h x k r = go (set-which ks i x a b k e r)
     where
-      go : Dec (x ≡ i) → getElem? js x ≡ some (C .jobOf k .arguments)
-      go (no q) = h x k (sym (set-other ks i x b q) ∙ r)
-      go (yes q) =
-          let s : _≡_ {A = Option (C .J)} (some b) (some k) = sym (set-same ks i a b e) ∙ ap (getElem? (set ks i b)) (sym q) ∙ r in
-          let t : b ≡ k = cc in
-          ap (getElem? js) q ∙ h i a e ∙ ap some (sym p ∙ ap (λ (u : C .J). C .jobOf u .arguments) t)
+      go : ((¬ (x ≡ i)) × (getElem? ks x ≡ some k)) ⊎ ((x ≡ i) × (b ≡ k)) → getElem? js x ≡ some (C .jobOf k .arguments)
+      go (inl q) = h x k (q .1)
+      go (inr q) = ap (getElem? js) (q .0) ∙ h i a e ∙ ap some (sym p ∙ ap (λ (u : C .J). C .jobOf u .arguments) (q .1))
 
 pub record Begins (C : Calls) (js : List Arguments) (ks : List (C .J)) : Type 0 where
   pub along : Along C js ks
@@ -272,24 +269,21 @@ module _ (C : Calls) (P : Promises C) (js : List Arguments) (z₀ : C .Z) (ks₀
   unfolding ownSteps
   counts start x k e = subst (λ (s : Stage). Sent s 0) (sym (b₀ .stage x k e)) (fresh-sent (C .jobOf k .arguments))
   counts (refused l y j r p q) x k e = counts l x k e
-  counts (stepped {z = z} {ks = ks} l i j r g p q) x k e = go (ℕ-discrete x i) (λ c d. counts l x c d)
+  counts (stepped {z = z} {ks = ks} l i j r g p q) x k e = go (set-which ks i x j (C .job r) k g e) (λ c d. counts l x c d)
     where
       s : Stage
       s = C .jobOf j .stage
 
-      go : Dec (x ≡ i) → ((c : C .J) → getElem? ks x ≡ some c → Sent (C .jobOf c .stage) (ownSteps C l x))
+      go : ((¬ (x ≡ i)) × (getElem? ks x ≡ some k)) ⊎ ((x ≡ i) × (C .job r ≡ k)) → ((c : C .J) → getElem? ks x ≡ some c → Sent (C .jobOf c .stage) (ownSteps C l x))
           → Sent (C .jobOf k .stage) (ownSteps C l x + cond (eqb i x && going s) 1 0)
-      go (no n) h =
-          let d : Sent (C .jobOf k .stage) (ownSteps C l x) = h k (sym (set-other ks i x (C .job r) n) ∙ e) in
-          let u : ownSteps C l x ≡ ownSteps C l x + cond (eqb i x && going s) 1 0 = rw (ne-eqb i x (λ m. n (sym m))) (omega arith) in
-          subst (Sent (C .jobOf k .stage)) u d
-      go (yes n) h =
-          let d : Sent s (ownSteps C l x) = h j (ap (getElem? ks) n ∙ g) in
-          let t : _≡_ {A = Option (C .J)} (some (C .job r)) (some k) = sym (set-same ks i j (C .job r) g) ∙ ap (getElem? (set ks i (C .job r))) (sym n) ∙ e in
-          let c : C .job r ≡ k = cc in
+      go (inl n) h =
+          let u : ownSteps C l x ≡ ownSteps C l x + cond (eqb i x && going s) 1 0 = rw (ne-eqb i x (λ m. n .0 (sym m))) (omega arith) in
+          subst (Sent (C .jobOf k .stage)) u (h k (n .1))
+      go (inr n) h =
+          let d : Sent s (ownSteps C l x) = h j (ap (getElem? ks) (n .0) ∙ g) in
           let a : step (C .jobOf j .arguments) (C .zoneOf z) s .stage ≡ C .jobOf k .stage =
-          sym (ap (λ (v : Job). v .stage) (P .jobAfter z j r p q)) ∙ ap (λ (v : C .J). C .jobOf v .stage) c in
-          let u : ownSteps C l x + cond (going s) 1 0 ≡ ownSteps C l x + cond (eqb i x && going s) 1 0 = rw (eq-eqb i x (sym n)) refl in
+          sym (ap (λ (v : Job). v .stage) (P .jobAfter z j r p q)) ∙ ap (λ (v : C .J). C .jobOf v .stage) (n .1) in
+          let u : ownSteps C l x + cond (going s) 1 0 ≡ ownSteps C l x + cond (eqb i x && going s) 1 0 = rw (eq-eqb i x (sym (n .0))) refl in
           subst (Sent (C .jobOf k .stage)) u (subst (λ (v : Stage). Sent v (ownSteps C l x + cond (going s) 1 0)) a (sent-step (C .jobOf j .arguments) (C .zoneOf z) s (ownSteps C l x) d))
 
   -- a job that does not stand in the order changed nothing
@@ -297,21 +291,20 @@ module _ (C : Calls) (P : Promises C) (js : List Arguments) (z₀ : C .Z) (ks₀
   unfolding ChangedNothing
   idle start x k e h = tt
   idle (refused l y j r p q) x k e h = idle l x k e h
-  idle (stepped {z = z} {ks = ks} l i j r g p q) x k e h = go (ℕ-discrete x i) (λ c d m. idle l x c d m)
+  idle (stepped {z = z} {ks = ks} l i j r g p q) x k e h = go (set-which ks i x j (C .job r) k g e) (λ c d m. idle l x c d m)
     where
       s : Stage
       s = C .jobOf j .stage
 
-      go : Dec (x ≡ i) → ((c : C .J) → getElem? ks x ≡ some c → outcome (C .jobOf c .stage) ≡ none → ChangedNothing C l x)
+      go : ((¬ (x ≡ i)) × (getElem? ks x ≡ some k)) ⊎ ((x ≡ i) × (C .job r ≡ k))
+          → ((c : C .J) → getElem? ks x ≡ some c → outcome (C .jobOf c .stage) ≡ none → ChangedNothing C l x)
           → ChangedNothing C l x × (i ≡ x → C .zoneOf (C .zone r) ≡ C .zoneOf z)
-      go (no n) f = (f k (sym (set-other ks i x (C .job r) n) ∙ e) h, λ m. absurd (n (sym m)))
-      go (yes n) f =
-          let t : _≡_ {A = Option (C .J)} (some (C .job r)) (some k) = sym (set-same ks i j (C .job r) g) ∙ ap (getElem? (set ks i (C .job r))) (sym n) ∙ e in
-          let c : C .job r ≡ k = cc in
+      go (inl n) f = (f k (n .1) h, λ m. absurd (n .0 (sym m)))
+      go (inr n) f =
           let a : step (C .jobOf j .arguments) (C .zoneOf z) s .stage ≡ C .jobOf k .stage =
-          sym (ap (λ (v : Job). v .stage) (P .jobAfter z j r p q)) ∙ ap (λ (v : C .J). C .jobOf v .stage) c in
+          sym (ap (λ (v : Job). v .stage) (P .jobAfter z j r p q)) ∙ ap (λ (v : C .J). C .jobOf v .stage) (n .1) in
           let u = quiet (C .jobOf j .arguments) (C .zoneOf z) s (ap outcome a ∙ h) in
-          (f j (ap (getElem? ks) n ∙ g) (u .1), λ m. P .zoneAfter z j r p q ∙ u .0)
+          (f j (ap (getElem? ks) (n .0) ∙ g) (u .1), λ m. P .zoneAfter z j r p q ∙ u .0)
 
 -- ---- the end of the list
 

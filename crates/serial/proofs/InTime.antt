@@ -1,19 +1,19 @@
 -- That demand 3 is not empty: jobs end in time, are not refused, and report six requests at most. Assumes nothing.
-use mathlib.Core.Path.{_≡_, sym, _∙_, ap, subst}
+use mathlib.Core.Path.{_≡_, sym, subst}
 use mathlib.Core.Bool.{Bool, true, false, cond, true≢false}
 use mathlib.Core.List.{List, [], _∷_}
-use mathlib.Core.Option.{Option, some}
+use mathlib.Core.Logic.{_⊎_, inl, inr}
+use mathlib.Core.Option.{some}
 use Prim.Native.Nat.{ℕ, zero, suc, _≤_, _<_}
-use native.Mathlib.Decide.{ℕ-discrete}
 use native.Mathlib.Omega.{arith}
 use lib.Dec.{eqb}
-use lib.ListN.{getElem?, set}
+use lib.ListN.{getElem?}
 use Rattle.update.specs.Rules.{Zone, Answer, success, NXDOMAIN, YXDOMAIN, YXRRSET, NXRRSET, requestA, fits, requestB, removeAddress, removeName}
 use Rattle.job.specs.Jobs.{add, remove, Arguments, End, done, conflict, noRoom, gaveUp, notOurs, gone, kept, Stage, beforeA, beforeB, beforeFirst, beforeSecond, ended, Job, possible, fresh, after, passed, afterFirst, afterSecond, step, sent}
 use Rattle.serial.specs.Demand.{Calls, Promises, going, Fresh, noJob, oneMore, Steps, start, stepped, refused, ownSteps, most, EndsInTime, NeverRefused, SixAtMost, Delivered}
 use Rattle.update.proofs.ZoneLaws.{some≢none}
 use Rattle.job.proofs.StageLaws.{each-among}
-use Rattle.serial.proofs.ListLaws.{set-same, set-other}
+use Rattle.serial.proofs.ListLaws.{set-which}
 use Rattle.serial.proofs.StageLaws.{possible-fresh, possible-step}
 use Rattle.serial.proofs.Placing.{Fits}
 use Rattle.serial.proofs.Demand.{Sent, some-eq, fresh-fits, begins, counts, js, its-job, stronger, demand3, left-out-idle}
@@ -67,14 +67,11 @@ module _ (C : Calls) (P : Promises C) (js : List Arguments) (z₀ : C .Z) (ks₀
   pub regular : {z : C .Z} {ks : List (C .J)} → Steps C z₀ ks₀ z ks → (i : ℕ) (k : C .J) → getElem? ks i ≡ some k → Regular (C .jobOf k)
   regular start i k e = regular-first js ks₀ new i k e
   regular (refused l y j r p q) i k e = regular l i k e
-  regular (stepped {z = z} {ks = ks} l n j r g p q) i k e = go (ℕ-discrete i n) (λ x c d. regular l x c d)
+  regular (stepped {z = z} {ks = ks} l n j r g p q) i k e = go (set-which ks n i j (C .job r) k g e) (λ x c d. regular l x c d)
     where
-      go : Dec (i ≡ n) → ((x : ℕ) (c : C .J) → getElem? ks x ≡ some c → Regular (C .jobOf c)) → Regular (C .jobOf k)
-      go (no m) h = h i k (sym (set-other ks n i (C .job r) m) ∙ e)
-      go (yes m) h =
-          let t : _≡_ {A = Option (C .J)} (some (C .job r)) (some k) = sym (set-same ks n j (C .job r) g) ∙ ap (getElem? (set ks n (C .job r))) (sym m) ∙ e in
-          let c : C .job r ≡ k = cc in
-          subst (λ (u : C .J). Regular (C .jobOf u)) c (subst Regular (sym (P .jobAfter z j r p q)) (regular-step (C .jobOf j) (C .zoneOf z) (h n j g)))
+      go : ((¬ (i ≡ n)) × (getElem? ks i ≡ some k)) ⊎ ((i ≡ n) × (C .job r ≡ k)) → ((x : ℕ) (c : C .J) → getElem? ks x ≡ some c → Regular (C .jobOf c)) → Regular (C .jobOf k)
+      go (inl m) h = h i k (m .1)
+      go (inr m) h = subst (λ (u : C .J). Regular (C .jobOf u)) (m .1) (subst Regular (sym (P .jobAfter z j r p q)) (regular-step (C .jobOf j) (C .zoneOf z) (h n j g)))
 
 -- A job that has not ended has sent fewer requests than its kind may.
 fewer : (j : Arguments) (s : Stage) (m : ℕ) → Fits j s → possible s ≡ true → Sent s m → going s ≡ true → m < most (j .kind)
@@ -131,14 +128,11 @@ module _ (C : Calls) (OkZone : C .Z → Type 0) (Ok : C .J → Type 0) (T : Take
     all-ok : {z : C .Z} {ks : List (C .J)} → Steps C z₀ ks₀ z ks → (i : ℕ) (k : C .J) → getElem? ks i ≡ some k → Ok k
     all-ok start i k e = all-first js ks₀ new i k e
     all-ok (refused l y j r p q) i k e = all-ok l i k e
-    all-ok (stepped {z = z} {ks = ks} l n j r g p q) i k e = go (ℕ-discrete i n) (λ x c d. all-ok l x c d)
+    all-ok (stepped {z = z} {ks = ks} l n j r g p q) i k e = go (set-which ks n i j (C .job r) k g e) (λ x c d. all-ok l x c d)
       where
-        go : Dec (i ≡ n) → ((x : ℕ) (c : C .J) → getElem? ks x ≡ some c → Ok c) → Ok k
-        go (no m) h = h i k (sym (set-other ks n i (C .job r) m) ∙ e)
-        go (yes m) h =
-            let t : _≡_ {A = Option (C .J)} (some (C .job r)) (some k) = sym (set-same ks n j (C .job r) g) ∙ ap (getElem? (set ks n (C .job r))) (sym m) ∙ e in
-            let c : C .job r ≡ k = cc in
-            subst Ok c (T .job-ok z j r p q)
+        go : ((¬ (i ≡ n)) × (getElem? ks i ≡ some k)) ⊎ ((i ≡ n) × (C .job r ≡ k)) → ((x : ℕ) (c : C .J) → getElem? ks x ≡ some c → Ok c) → Ok k
+        go (inl m) h = h i k (m .1)
+        go (inr m) h = subst Ok (m .1) (T .job-ok z j r p q)
 
   pub never-refused : NeverRefused C
   never-refused z₀ z js ks₀ ks formed new l i k r e p = T .unrefused z k r (zone-stays js z₀ ks₀ formed new l) (all-ok js z₀ ks₀ formed new l i k e) p
