@@ -78,8 +78,8 @@ module _ (k : ℕ) {y : Job} {rest : List Job} {n : ℕ} {D : ℕ → ℕ} (so :
   name-is : jobOf y .arguments .update .name ≡ pipe
   name-is = ap (λ (j : jobs.Job). j .arguments .update .name) (h .is) ∙ (unfold yAdds in refl)
 
-  reached : (d : ℕ) → D n ≡ d → Reached e n d
-  reached d q = record {
+  reached : {d : ℕ} → D n ≡ d → Reached e n d
+  reached q = record {
     its = list;
     held = so .held;
     hasEnded = ap (λ (j : jobs.Job). j .stage) (h .is);
@@ -144,27 +144,17 @@ twice k =
 
 -- ---- the four
 
-two : Reached (conflict 2) 2 0
-unfolding begun unfinished
-two = reached 1 (p12 0 (omega arith) ky y-first (all 1) (again 0) 2 refl) (conflict 2) (refused-is 0 (omega arith) ky y-first) 0 refl
-
-four : Reached (conflict 4) 4 1
-unfolding begun unfinished
-four = reached 2 (p12 2 (omega arith) y-2 y-2-is (all 2) (once 0) 4 refl) (conflict 4) (refused-is 2 (omega arith) y-2 y-2-is) 1 refl
-
-six : Reached (conflict 6) 6 2
-unfolding begun unfinished
-six = reached 3 (p12 4 (omega arith) y-4 y-4-is (all 3) (twice 0) 6 refl) (conflict 6) (refused-is 4 (omega arith) y-4 y-4-is) 2 refl
-
-given : Reached (gaveUp 6) 6 3
-unfolding begun unfinished
-given =
-    reached 4 (leaves (all 4) (adds-again (all 4) (round 4 (omega arith) y-4 y-4-is (all 4) (ended (gaveUp 6)) leads-6 octet-6 (twice 1) 6 refl) 7 refl) 8 refl)
-    (gaveUp 6) (back-is 4 (omega arith) y-4 y-4-is (ended (gaveUp 6)) leads-6 octet-6) 3 refl
-
 -- Theorem: the bounds are reached.
 pub all-reached : AllReached
-all-reached = record { two = two; four = four; six = six; gaveUp = given }
+unfolding begun unfinished
+all-reached = record {
+  two = reached 1 (p12 0 (omega arith) ky y-first (all 1) (again 0) 2 refl) (conflict 2) (refused-is 0 (omega arith) ky y-first) refl;
+  four = reached 2 (p12 2 (omega arith) y-2 y-2-is (all 2) (once 0) 4 refl) (conflict 4) (refused-is 2 (omega arith) y-2 y-2-is) refl;
+  six = reached 3 (p12 4 (omega arith) y-4 y-4-is (all 3) (twice 0) 6 refl) (conflict 6) (refused-is 4 (omega arith) y-4 y-4-is) refl;
+  gaveUp =
+      reached 4 (leaves (all 4) (adds-again (all 4) (round 4 (omega arith) y-4 y-4-is (all 4) (ended (gaveUp 6)) leads-6 octet-6 (twice 1) 6 refl) 7 refl) 8 refl)
+      (gaveUp 6) (back-is 4 (omega arith) y-4 y-4-is (ended (gaveUp 6)) leads-6 octet-6) refl;
+}
 
 -- ---- no smaller bound
 
@@ -172,8 +162,9 @@ bounded : {e : End} {n d : ℕ} (f : ℕ → ℕ) → Reached e n d → ((a : Ad
 bounded {n = n} {d = d} f r h =
     subst (λ (m : ℕ). m ≤ f d) (r .requests) (subst (λ (m : ℕ). requests running (r .its) ≤ f m) (r .deletions) (h (r .its)))
 
+-- Theorem: no smaller bound holds.
 pub tight : Tight
 tight = record {
-  bound = λ f h. (bounded f two h, bounded f four h, bounded f six h);
-  given = λ d h. subst (λ (m : ℕ). d ≤ m) (given .deletions) (h (given .its) 6 (given .hasEnded));
+  bound = λ f h. (bounded f (all-reached .two) h, bounded f (all-reached .four) h, bounded f (all-reached .six) h);
+  given = λ d h. let g = all-reached .gaveUp in subst (λ (m : ℕ). d ≤ m) (g .deletions) (h (g .its) 6 (g .hasEnded));
 }

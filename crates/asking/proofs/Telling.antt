@@ -107,15 +107,19 @@ tells-so {s} {s′} {t} {t′} {b} {b′} {c} {c′} p q r v h = subst (λ (w : 
 
 -- ---- what follows of its requests
 
+at-most-ended : (e : End) (N b : ℕ) → AtEnd e b → Sent (ended e) N → N ≤ most b
+unfolding most
+at-most-ended (done n) N b h c = let e : n ≡ N = c n refl in omega arith
+at-most-ended (conflict n) N b h c = let e : n ≡ N = c n refl in omega arith
+at-most-ended (noRoom n) N b h c = let e : n ≡ N = c n refl in omega arith
+at-most-ended (gaveUp n) N b h c = let e : n ≡ N = c n refl in omega arith
+at-most-ended notOurs N b h c = absurd h
+at-most-ended gone N b h c = absurd h
+at-most-ended kept N b h c = absurd h
+
 pub at-most : (s : Stage) (t : Bool) (N b d : ℕ) → Tells s t b d → Sent s N → N ≤ most b
 unfolding most
-at-most (ended (done n)) t N b d h c = let e : n ≡ N = c n refl in omega arith
-at-most (ended (conflict n)) t N b d h c = let e : n ≡ N = c n refl in omega arith
-at-most (ended (noRoom n)) t N b d h c = let e : n ≡ N = c n refl in omega arith
-at-most (ended (gaveUp n)) t N b d h c = let e : n ≡ N = c n refl in omega arith
-at-most (ended notOurs) t N b d h c = absurd h
-at-most (ended gone) t N b d h c = absurd h
-at-most (ended kept) t N b d h c = absurd h
+at-most (ended e) t N b d h c = at-most-ended e N b h c
 at-most (beforeA n) t N b d h c = omega arith
 at-most (beforeB n) t N b d h c = omega (arith, h .few)
 at-most beforeFirst t N b d h c = absurd h
