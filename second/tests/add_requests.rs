@@ -571,13 +571,46 @@ fn fixed_list() -> List {
     list
 }
 
-/// Runs a list either way. Each step has a job's number and the stage that it
-/// leads to. N, r and the end of Y's add, which has a deletion before its
-/// first request and one after its last.
-fn y_of(steps: &[(usize, u8)]) -> (usize, usize, u8) {
+/// A step of a fixed list: a job's number, and the stage that the step leads to.
+type Leads = (usize, u8);
+
+/// X's first remove deletes the name, and X's first add adds it again.
+const OPENING: [Leads; 3] = [
+    (X_REMOVE[0], job::BEFORE_SECOND),
+    (X_REMOVE[0], job::GONE),
+    (X_ADD[0], job::DONE),
+];
+
+/// A round, from 1 on: Y finds the name, and by its next request it is deleted.
+/// Y is led back to this stage, and X adds the name again.
+fn round(number: usize, back: u8) -> [Leads; 5] {
+    [
+        (X_REMOVE[number], job::BEFORE_SECOND),
+        (Y, job::BEFORE_B),
+        (X_REMOVE[number], job::GONE),
+        (Y, back),
+        (X_ADD[number], job::DONE),
+    ]
+}
+
+/// The end behind so many rounds: Y finds the name twice, X's, and only then
+/// X deletes it.
+fn conflict_after(rounds: usize) -> [Leads; 4] {
+    let last = X_REMOVE[rounds + 1];
+    [
+        (last, job::BEFORE_SECOND),
+        (Y, job::BEFORE_B),
+        (Y, job::CONFLICT),
+        (last, job::GONE),
+    ]
+}
+
+/// Runs a list, put together of parts, either way. N, r and the end of Y's add,
+/// which has a deletion before its first request and one after its last.
+fn y_of(parts: &[&[Leads]]) -> (usize, usize, u8) {
     let [by_value, lent] = WAYS.map(|way| {
         let mut list = fixed_list();
-        for (at, &(number, stage)) in steps.iter().enumerate() {
+        for (at, (number, stage)) in parts.concat().into_iter().enumerate() {
             assert_eq!(list.step(way, number).after, stage, "step {at}");
         }
         let y = &list.adds()[0];
@@ -591,93 +624,36 @@ fn y_of(steps: &[(usize, u8)]) -> (usize, usize, u8) {
 
 #[test]
 fn two_requests_without_a_deletion() {
-    let y = y_of(&[
-        (X_REMOVE[0], job::BEFORE_SECOND),
-        (X_REMOVE[0], job::GONE),
-        (X_ADD[0], job::DONE),
-        (X_REMOVE[1], job::BEFORE_SECOND),
-        (Y, job::BEFORE_B),
-        (Y, job::CONFLICT),
-        (X_REMOVE[1], job::GONE),
-    ]);
+    let y = y_of(&[&OPENING, &conflict_after(0)]);
     assert_eq!(y, (2, 0, job::CONFLICT));
 }
 
 #[test]
 fn four_requests_with_one_deletion() {
-    let y = y_of(&[
-        (X_REMOVE[0], job::BEFORE_SECOND),
-        (X_REMOVE[0], job::GONE),
-        (X_ADD[0], job::DONE),
-        // The first round.
-        (X_REMOVE[1], job::BEFORE_SECOND),
-        (Y, job::BEFORE_B),
-        (X_REMOVE[1], job::GONE),
-        (Y, job::BEFORE_A),
-        (X_ADD[1], job::DONE),
-        // The end.
-        (X_REMOVE[2], job::BEFORE_SECOND),
-        (Y, job::BEFORE_B),
-        (Y, job::CONFLICT),
-        (X_REMOVE[2], job::GONE),
-    ]);
+    let y = y_of(&[&OPENING, &round(1, job::BEFORE_A), &conflict_after(1)]);
     assert_eq!(y, (4, 1, job::CONFLICT));
 }
 
 #[test]
 fn six_requests_with_two_deletions() {
     let y = y_of(&[
-        (X_REMOVE[0], job::BEFORE_SECOND),
-        (X_REMOVE[0], job::GONE),
-        (X_ADD[0], job::DONE),
-        // The first round.
-        (X_REMOVE[1], job::BEFORE_SECOND),
-        (Y, job::BEFORE_B),
-        (X_REMOVE[1], job::GONE),
-        (Y, job::BEFORE_A),
-        (X_ADD[1], job::DONE),
-        // The second.
-        (X_REMOVE[2], job::BEFORE_SECOND),
-        (Y, job::BEFORE_B),
-        (X_REMOVE[2], job::GONE),
-        (Y, job::BEFORE_A),
-        (X_ADD[2], job::DONE),
-        // The end.
-        (X_REMOVE[3], job::BEFORE_SECOND),
-        (Y, job::BEFORE_B),
-        (Y, job::CONFLICT),
-        (X_REMOVE[3], job::GONE),
+        &OPENING,
+        &round(1, job::BEFORE_A),
+        &round(2, job::BEFORE_A),
+        &conflict_after(2),
     ]);
     assert_eq!(y, (6, 2, job::CONFLICT));
 }
 
 #[test]
 fn gave_up_with_three_deletions() {
+    let last = X_REMOVE[4];
     let y = y_of(&[
-        (X_REMOVE[0], job::BEFORE_SECOND),
-        (X_REMOVE[0], job::GONE),
-        (X_ADD[0], job::DONE),
-        // The first round.
-        (X_REMOVE[1], job::BEFORE_SECOND),
-        (Y, job::BEFORE_B),
-        (X_REMOVE[1], job::GONE),
-        (Y, job::BEFORE_A),
-        (X_ADD[1], job::DONE),
-        // The second.
-        (X_REMOVE[2], job::BEFORE_SECOND),
-        (Y, job::BEFORE_B),
-        (X_REMOVE[2], job::GONE),
-        (Y, job::BEFORE_A),
-        (X_ADD[2], job::DONE),
-        // The third.
-        (X_REMOVE[3], job::BEFORE_SECOND),
-        (Y, job::BEFORE_B),
-        (X_REMOVE[3], job::GONE),
-        (Y, job::GAVE_UP),
-        (X_ADD[3], job::DONE),
-        // The end.
-        (X_REMOVE[4], job::BEFORE_SECOND),
-        (X_REMOVE[4], job::GONE),
+        &OPENING,
+        &round(1, job::BEFORE_A),
+        &round(2, job::BEFORE_A),
+        &round(3, job::GAVE_UP),
+        &[(last, job::BEFORE_SECOND), (last, job::GONE)],
     ]);
     assert_eq!(y, (6, 3, job::GAVE_UP));
 }
