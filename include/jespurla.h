@@ -547,10 +547,10 @@ jespurla_answered jespurla_request_remove_name(jespurla_zone zone, jespurla_name
  * After conflict the name is somebody else's: the player gets another, or is told. No room and gave
  * up have changed nothing, and a fresh job may be sent later.
  *
- * An add's count is at most 2 + 2r, r being how often its name was deleted between the add's first
- * request and its last, and at most 6. So a count of 3 or 4 says that the name was deleted in
- * between, 5 or 6 that it was twice, gave up that it was three times, or more often each
- * (docs/DEMAND-3.md).
+ * An add's count is at most 6 and, on a zone that only steps of jobs change, at most 2 + 2r, r being
+ * how often its name was deleted between the add's first request and its last. So a count of 3 or 4
+ * says there that the name was deleted in between, 5 or 6 that it was twice, gave up that it was
+ * three times, or more often each (docs/DEMAND-3.md).
  */
 #define JESPURLA_ADD_BEFORE_A 1
 #define JESPURLA_ADD_BEFORE_B 2

@@ -105,9 +105,10 @@ impl Job {
 
     /// How many requests an add has sent; a remove does not count them.
     ///
-    /// They are at most 2 + 2r, r being how often the name was deleted between the first of them
-    /// and the last, and at most 6. So 3 or 4 say that the name was deleted in between, 5 or 6 that
-    /// it was twice, and [`Stage::AddGaveUp`] that it was three times, or more often each.
+    /// They are at most 6 and, on a zone that only steps of jobs change, at most 2 + 2r, r being how
+    /// often the name was deleted between the first of them and the last. So 3 or 4 say there that
+    /// the name was deleted in between, 5 or 6 that it was twice, and [`Stage::AddGaveUp`] that it
+    /// was three times, or more often each.
     pub fn requests_sent(&self) -> Option<u8> {
         self.stage().is_of_add().then_some(self.0.count)
     }
