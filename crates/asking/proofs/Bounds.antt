@@ -13,7 +13,7 @@ use borrow.Table.Steps.{cases}
 use Rattle.octets.specs.Count.{Octets}
 use Rattle.update.specs.Rules.{Zone, Form, there, atKey}
 use Rattle.job.specs.Jobs.{add, Arguments, gaveUp, Stage, beforeA, ended, Job, possible, firstStage, fresh, State, step}
-use Rattle.serial.specs.Demand.{Calls, Promises, going, Steps, start, stepped, refused, ownSteps}
+use Rattle.serial.specs.Steps.{Calls, Promises, going, Steps, start, stepped, refused, ownSteps}
 use Rattle.serial.specs.Running.{running}
 use Rattle.serial.specs.OnOctets.{onOctets}
 use Rattle.serial.proofs.ListLaws.{set-which}

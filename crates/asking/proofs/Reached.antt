@@ -10,7 +10,7 @@ use Rattle.job.specs.declared.job.Job.{Job}
 use Rattle.job.specs.Jobs as jobs
 use Rattle.job.specs.Jobs.{Arguments, End, beforeA, beforeB, ended, conflict, gaveUp, after}
 use Rattle.job.specs.Meaning.{jobOf, atStage, stageNumber, stageCount}
-use Rattle.serial.specs.Demand.{Fresh, noJob, oneMore, start, ownSteps}
+use Rattle.serial.specs.Steps.{Fresh, noJob, oneMore, start, ownSteps}
 use Rattle.serial.specs.Running.{running}
 use Rattle.serial.specs.P12.{pipe, xRemoves, yAdds, areOctets}
 use Rattle.serial.proofs.Cases.{xAdds}

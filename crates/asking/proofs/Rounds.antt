@@ -18,7 +18,7 @@ use Rattle.job.specs.Jobs as jobs
 use Rattle.job.specs.Jobs.{Stage, beforeA, beforeB, beforeSecond, ended, conflict, done, gone, after}
 use Rattle.job.specs.Meaning.{jobOf, atStage, stageNumber, stageCount}
 use Rattle.step.specs.declared.Stepped.{Stepped}
-use Rattle.serial.specs.Demand.{going, Steps, stepped, ownSteps}
+use Rattle.serial.specs.Steps.{going, Steps, stepped, ownSteps}
 use Rattle.serial.specs.Running.{running}
 use Rattle.serial.specs.P12.{pipe, xRemoves, yAdds, ZoneValue, areOctets, JobValue}
 use Rattle.serial.proofs.ListLaws.{set-same}

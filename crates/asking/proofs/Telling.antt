@@ -10,7 +10,7 @@ use Rattle.update.specs.Rules.{Zone, there, atKey, atName, heldBy, left, fits, 
 use Rattle.job.specs.Jobs.{Arguments, End, done, conflict, noRoom, gaveUp, notOurs, gone, kept, Stage, beforeA, beforeB, beforeFirst, beforeSecond, ended, possible, after, State, step}
 use Rattle.job.proofs.StageLaws.{each-among}
 use Rattle.update.proofs.ZoneLaws.{option-case}
-use Rattle.serial.specs.Demand.{going}
+use Rattle.serial.specs.Steps.{going}
 use Rattle.serial.proofs.RequestLaws.{step-A-new, step-A-full, step-A-there, step-B-absent, step-B-other, step-B-full, step-B-done}
 use Rattle.serial.proofs.Demand.{Sent}
 use Rattle.serial.proofs.InTime.{few-sent}

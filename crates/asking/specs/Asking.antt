@@ -11,7 +11,7 @@ use Rattle.octets.specs.Count.{Octets}
 use Rattle.dname.specs.Name.{key}
 use Rattle.update.specs.Rules.{there, atKey}
 use Rattle.job.specs.Jobs.{add, Arguments, End, done, conflict, noRoom, gaveUp, notOurs, gone, kept, Stage, beforeA, beforeB, beforeFirst, beforeSecond, ended, Job, sent}
-use Rattle.serial.specs.Demand.{Calls, going, Fresh, Steps, start, stepped, refused, ownSteps}
+use Rattle.serial.specs.Steps.{Calls, going, Fresh, Steps, start, stepped, refused, ownSteps}
 
 -- ---- deletions
 

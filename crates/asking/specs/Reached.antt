@@ -5,7 +5,7 @@ use Prim.Native.Nat.{ℕ, _≤_}
 use Rattle.zone.specs.declared.Zone.{Zone}
 use Rattle.job.specs.declared.job.Job.{Job}
 use Rattle.job.specs.Jobs.{End, conflict, gaveUp, ended}
-use Rattle.serial.specs.Demand.{Steps, start, stepped, refused}
+use Rattle.serial.specs.Steps.{Steps, start, stepped, refused}
 use Rattle.serial.specs.Running.{running}
 use Rattle.serial.specs.P12.{ZoneValue, JobValue}
 use Rattle.asking.specs.Asking.{Add, stage, requests, deletedBetween}

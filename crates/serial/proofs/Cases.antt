@@ -14,9 +14,13 @@ use Rattle.octets.proofs.CountLaws.{counts-nothing, counts-list}
 use Rattle.update.specs.Rules.{Host, Zone, there, GoodHost, Form, with, keepOthers, heldBy, empty, requestA, requestB, removeAddress, removeName, withName, withoutName, withAddress, withoutAddress, deleteName}
 use Rattle.job.specs.Jobs.{add, Arguments, End, conflict, gone, ended, Job, fresh, after, afterFirst, afterSecond, step, Sends, hasEnded, sends}
 use Rattle.serial.specs.P12.{pipe, xDhcid, yDhcid, address1, xPipe, xRemoves, yAdds, oneAddress, xHost, heldAt, heldByX}
-use Rattle.serial.specs.Demand.{Calls, Promises, noJob, oneMore, start, stepped, verdict, stands, times, nobody, next, Explains, Story, HeldHaveAddress, Serializable}
+use Rattle.serial.specs.Steps.{Calls, Promises, noJob, oneMore, start, stepped}
+use Rattle.serial.specs.Order.{times, nobody, next, Explains}
+use Rattle.serial.specs.Demand.{Story, HeldHaveAddress, Serializable}
 use Rattle.update.proofs.ZoneLaws.{some≢none}
 use Rattle.serial.proofs.Demand.{stronger, demand3}
+use Rattle.serial.proofs.OrderLaws.{own-answer}
+use Rattle.serial.proofs.TwoJobs.{two-explain}
 
 pub record Result : Type 0 where
   pub refusal : ℕ
@@ -163,13 +167,11 @@ p12-serial = demand3 byRule by-rule p12 p12-held
 -- As Y first and X after: that order explains it.
 pub p12-order : Explains (xRemoves ∷ yAdds ∷ []) (gone ∷ conflict 2 ∷ []) z₀ (r₄ z₀ xRemoves yAdds .zone) (1 ∷ 0 ∷ [])
 unfolding times
-p12-order = record { each = each; inTurn = next 1 yAdds (conflict 2) (conflict 2) refl refl y-conflict refl (next 0 xRemoves gone gone refl refl x-gone refl nobody) }
+p12-order =
+    two-explain xRemoves yAdds gone (conflict 2) refl refl
+    (next 1 yAdds (conflict 2) (conflict 2) refl refl y-conflict (λ k. own-answer (conflict 2)) (next 0 xRemoves gone gone refl refl x-gone (λ k. own-answer gone) nobody))
+    refl refl
   where
-    each : (i : ℕ) (e : End) → getElem? (gone ∷ conflict 2 ∷ []) i ≡ some e → times i (1 ∷ 0 ∷ []) ≡ stands (verdict e)
-    each zero e p = let q : gone ≡ e = cc in ap (λ (u : End). stands (verdict u)) q
-    each (suc zero) e p = let q : conflict 2 ≡ e = cc in ap (λ (u : End). stands (verdict u)) q
-    each (suc (suc i)) e p = absurd (some≢none (sym p))
-
     y-conflict : Sends yAdds z₀ (fresh yAdds) z₀ (conflict 2)
     y-conflict = unfold heldByX xHost oneAddress yAdds pipe xDhcid yDhcid step fresh requestA requestB after heldBy sameOctets key in sends (sends hasEnded)
 

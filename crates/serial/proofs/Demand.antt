@@ -1,6 +1,6 @@
 -- Demand 3, for any calls that keep the promises: the order is carried along the list of steps, with the counts beside it. Assumes nothing.
 use mathlib.Core.Path.{_≡_, refl, sym, _∙_, ap, subst, fun-ext}
-use mathlib.Core.Bool.{Bool, true, false, cond, _&&_}
+use mathlib.Core.Bool.{Bool, true, false, cond, not, _&&_, true≢false}
 use mathlib.Core.List.{List, [], _∷_, map}
 use mathlib.Core.Logic.{_⊎_, inl, inr}
 use mathlib.Core.Option.{Option, none, some}
@@ -15,12 +15,14 @@ use Rattle.octets.specs.Count.{Octets}
 use Rattle.addresses.specs.Addresses.{four}
 use Rattle.update.specs.Rules.{Zone, Form, keepOthers, Answer, success, NXDOMAIN, YXDOMAIN, YXRRSET, NXRRSET, requestA, fits, requestB, removeAddress, removeName}
 use Rattle.job.specs.Jobs.{Kind, add, remove, Arguments, End, gaveUp, notOurs, gone, kept, Stage, beforeA, beforeB, beforeFirst, beforeSecond, ended, Job, firstStage, fresh, after, passed, afterFirst, afterSecond, step, sent}
-use Rattle.serial.specs.Demand.{Calls, Promises, going, Fresh, noJob, oneMore, Steps, start, stepped, refused, ownSteps, ChangedNothing, Moment, EndedFirst, verdict, stands, times, In, Before, InTurn, nobody, next, Explains, Story, Demand3, Stronger, LeftOutIdle}
+use Rattle.serial.specs.Steps.{Calls, Promises, endAt, going, Fresh, noJob, oneMore, Steps, start, stepped, refused, ownSteps, ChangedNothing, HasEnded, EndedFirst}
+use Rattle.serial.specs.Order.{isLeftOut, times, StandsOnce, In, Before, InTurn, nobody, next, Explains}
+use Rattle.serial.specs.Demand.{Story, Serializable, AsSeen, Demand3, Stronger, LeftOutIdle}
 use Rattle.update.proofs.ZoneLaws.{address, some≢none, option-case, zone-eq, put-off}
 use Rattle.serial.proofs.ListLaws.{set-same, set-other, set-which}
-use Rattle.serial.proofs.RequestLaws.{form-step, whole, whole-sends, outcome, quiet}
-use Rattle.serial.proofs.OrderLaws.{serial, Agree, form-serial, times-in}
-use Rattle.serial.proofs.Placing.{Ended, Fits, stand, stand-same, stand-other, ended≢2, At, Inv, Real, move, shown, emptied}
+use Rattle.serial.proofs.RequestLaws.{form-step, whole, whole-sends, placed, quiet}
+use Rattle.serial.proofs.OrderLaws.{serial, Agree, form-serial, times-in, times-some}
+use Rattle.serial.proofs.Placing.{Ended, Fits, stand, stand-same, stand-other, ended≢2, stands, At, Inv, Real, move, shown, emptied}
 
 -- ---- an add's count
 
@@ -75,17 +77,37 @@ sent-fresh : (k : Kind) → Sent (firstStage k) 0
 sent-fresh add = refl
 sent-fresh remove = refl
 
-none-fresh : (k : Kind) → outcome (firstStage k) ≡ none
-none-fresh add = refl
-none-fresh remove = refl
+unplaced-first : (k : Kind) → placed (firstStage k) ≡ false
+unplaced-first add = refl
+unplaced-first remove = refl
+
+going-first : (k : Kind) → going (firstStage k) ≡ true
+going-first add = refl
+going-first remove = refl
 
 fits-fresh : (j : Arguments) (k : Kind) → j .kind ≡ k → Fits j (firstStage k)
 fits-fresh j add e = e
 fits-fresh j remove e = e
 
-fresh-none : (j : Arguments) → outcome (fresh j) ≡ none
+fresh-unplaced : (j : Arguments) → placed (fresh j) ≡ false
 unfolding fresh
-fresh-none j = none-fresh (j .kind)
+fresh-unplaced j = unplaced-first (j .kind)
+
+-- a job that is not going has ended
+is-over : (s : Stage) → going s ≡ false → Ended s
+is-over (beforeA n) h = absurd (true≢false h)
+is-over (beforeB n) h = absurd (true≢false h)
+is-over beforeFirst h = absurd (true≢false h)
+is-over beforeSecond h = absurd (true≢false h)
+is-over (ended e) h = (e, refl)
+
+fresh-going : (j : Arguments) → going (fresh j) ≡ true
+unfolding fresh
+fresh-going j = going-first (j .kind)
+
+-- how often a fresh job stands in the order
+fresh-stands : (j : Arguments) → stands (fresh j) ≡ 0
+fresh-stands j = ap (λ (b : Bool). cond b 1 0) (fresh-unplaced j)
 
 pub fresh-fits : (j : Arguments) → Fits j (fresh j)
 unfolding fresh
@@ -201,27 +223,47 @@ module _ (C : Calls) (P : Promises C) (js : List Arguments) (z₀ : C .Z) (ks₀
   unfolding serial Agree times
   begin = record {
     put-off = λ k. [];
-    names = λ k. shown refl refl (λ h p b x w. some≢none (sym (ap outcome (w .stage)) ∙ ap outcome (first x) ∙ fresh-none (JJ x)));
+    names = λ k. shown refl refl (λ h p b x w. true≢false (sym (ap placed (w .stage)) ∙ ap placed (first x) ∙ fresh-unplaced (JJ x)));
     agree = tt;
-    each = λ i. sym (ap (λ (s : Stage). stands (outcome s)) (first i) ∙ ap stands (fresh-none (JJ i)));
+    each = λ i. sym (ap stands (first i) ∙ fresh-stands (JJ i));
     fits = λ i. subst (Fits (JJ i)) (sym (first i)) (fresh-fits (JJ i));
   }
 
-  -- a job that has sent no request does not stand in the order
-  absorb : (H : ℕ → ℕ → Type 0) (z : Zone) (ks : List (C .J)) (o : List ℕ) → Along C js ks → Holds z (stages C js ks) o → Orders H (stages C js ks) o
-      → Orders (λ a b. H a b ⊎ Moment C ks a b) (stages C js ks) o
-  absorb H z ks o al v r = record { over = over; order = order }
+  -- a job that has sent no request is fresh
+  unsent : {z : C .Z} {ks : List (C .J)} (l : Steps C z₀ ks₀ z ks) (x : ℕ) (k : C .J) → getElem? ks x ≡ some k → ownSteps C l x ≡ 0 → C .jobOf k .stage ≡ fresh (C .jobOf k .arguments)
+  unfolding ownSteps
+  unsent start x k e h = b₀ .stage x k e
+  unsent (refused l y j r p q) x k e h = unsent l x k e h
+  unsent (stepped {ks = ks} l i j r g p q) x k e h = go (set-which ks i x j (C .job r) k g e) (λ c d. unsent l x c d (omega arith))
     where
-      over : (a b : ℕ) → H a b ⊎ Moment C ks a b → Ended (stages C js ks a)
-      over a b (inl x) = r .over a b x
-      over a b (inr m) = (m .end, stage-is C js ks a (m .over) (m .isA) ∙ m .hasEnded)
+      go : ((¬ (x ≡ i)) × (getElem? ks x ≡ some k)) ⊎ ((x ≡ i) × (C .job r ≡ k))
+          → ((c : C .J) → getElem? ks x ≡ some c → C .jobOf c .stage ≡ fresh (C .jobOf c .arguments)) → C .jobOf k .stage ≡ fresh (C .jobOf k .arguments)
+      go (inl n) f = f k (n .1)
+      go (inr n) f =
+          let u : going (C .jobOf j .stage) ≡ true = ap going (f j (ap (getElem? ks) (n .0) ∙ g)) ∙ fresh-going (C .jobOf j .arguments) in
+          let t : _≡_ {A = ℕ} (cond (eqb i x && going (C .jobOf j .stage)) 1 0) 1 = rw (eq-eqb i x (sym (n .0)), u) refl in
+          absurd (omega arith)
 
-      order : (a b : ℕ) → H a b ⊎ Moment C ks a b → In a o → In b o → Before a b o
+  -- What is seen with a further step, of job i.
+  abbrev Seen : {z : C .Z} {ks : List (C .J)} → Steps C z₀ ks₀ z ks → ℕ → ℕ → ℕ → Type 0
+  Seen {ks = ks} l i a b = EndedFirst C l a b ⊎ ((i ≡ b) × (ownSteps C l b ≡ 0) × HasEnded C ks a)
+
+  -- If it is the first request of i, then i does not stand in the order yet.
+  absorb : {z : C .Z} {ks : List (C .J)} (l : Steps C z₀ ks₀ z ks) (i : ℕ) (k : C .J) → getElem? ks i ≡ some k → (o : List ℕ) → Holds (C .zoneOf z) (stages C js ks) o
+      → Orders (EndedFirst C l) (stages C js ks) o → Orders (Seen l i) (stages C js ks) o
+  absorb {ks = ks} l i k g o v r = record { over = over; order = order }
+    where
+      over : (a b : ℕ) → Seen l i a b → Ended (stages C js ks a)
+      over a b (inl x) = r .over a b x
+      over a b (inr m) = subst Ended (sym (stage-is C js ks a (m .2 .job) (m .2 .its))) (is-over (C .jobOf (m .2 .job) .stage) (m .2 .over))
+
+      order : (a b : ℕ) → Seen l i a b → In a o → In b o → Before a b o
       order a b (inl x) p q = r .order a b x p q
       order a b (inr m) p q =
-          let u : 0 < times b o = times-in b o q in
-          let s : stages C js ks b ≡ fresh (C .jobOf (m .waiting) .arguments) = stage-is C js ks b (m .waiting) (m .isB) ∙ m .isFresh in
-          let t : times b o + times b (v .put-off (key (JJ b .update .name))) ≡ 0 = v .each b ∙ ap (λ (x : Stage). stands (outcome x)) s ∙ ap stands (fresh-none (C .jobOf (m .waiting) .arguments)) in
+          let u : 0 < times i o = times-in i o (subst (λ (x : ℕ). In x o) (sym (m .0)) q) in
+          let n : ownSteps C l i ≡ 0 = ap (ownSteps C l) (m .0) ∙ m .1 in
+          let t : stands (stages C js ks i) ≡ 0 = ap stands (stage-is C js ks i k g ∙ unsent l i k g n) ∙ fresh-stands (C .jobOf k .arguments) in
+          let w : times i o + times i (v .put-off (key (JJ i .update .name))) ≡ 0 = v .each i ∙ t in
           absurd (omega arith)
 
   abbrev So : C .Z → List (C .J) → (ℕ → ℕ → Type 0) → Type 0
@@ -256,14 +298,14 @@ module _ (C : Calls) (P : Promises C) (js : List Arguments) (z₀ : C .Z) (ks₀
           ap (stand f i) (ap (λ (x : Arguments). step x (C .zoneOf z) s .stage) is-a ∙ sym (ap (λ (u : Job). u .stage) (P .jobAfter z k r p q)))
           ∙ sym (stages-set C js ks i k (C .job r) g)
 
-      go : So z ks (EndedFirst C l) → So (C .zone r) ks′ (λ x y. EndedFirst C l x y ⊎ Moment C ks′ x y)
+      go : So z ks (EndedFirst C l) → So (C .zone r) ks′ (Seen l i)
       go (m) =
           let n = move JJ (C .zoneOf z₀) g₀ (C .zoneOf z) f (m .0) (m .1) (m .3) i s (stage-is C js ks i k g) in
           let v : Holds (C .zoneOf (C .zone r)) (stages C js ks′) (n .0) =
           subst (λ (x : Zone). Holds x (stages C js ks′) (n .0)) zone-is
           (subst (λ (h : ℕ → Stage). Holds (step (JJ i) (C .zoneOf z) s .zone) h (n .0)) stages-are (n .1)) in
-          let w : Orders (EndedFirst C l) (stages C js ks′) (n .0) = subst (λ (h : ℕ → Stage). Orders (EndedFirst C l) h (n .0)) stages-are (n .2 (EndedFirst C l) (m .2)) in
-          (n .0, v, absorb (EndedFirst C l) (C .zoneOf (C .zone r)) ks′ (n .0) (along (stepped l i k r g p q)) v w, subst Form zone-is (form-step (JJ i) (C .zoneOf z) (m .3) s))
+          let w : Orders (Seen l i) (stages C js ks′) (n .0) = subst (λ (h : ℕ → Stage). Orders (Seen l i) h (n .0)) stages-are (n .2 (Seen l i) (absorb l i k g (m .0) (m .1) (m .2))) in
+          (n .0, v, w, subst Form zone-is (form-step (JJ i) (C .zoneOf z) (m .3) s))
 
   pub counts : {z : C .Z} {ks : List (C .J)} (l : Steps C z₀ ks₀ z ks) (x : ℕ) (k : C .J) → getElem? ks x ≡ some k → Sent (C .jobOf k .stage) (ownSteps C l x)
   unfolding ownSteps
@@ -287,7 +329,7 @@ module _ (C : Calls) (P : Promises C) (js : List Arguments) (z₀ : C .Z) (ks₀
           subst (Sent (C .jobOf k .stage)) u (subst (λ (v : Stage). Sent v (ownSteps C l x + cond (going s) 1 0)) a (sent-step (C .jobOf j .arguments) (C .zoneOf z) s (ownSteps C l x) d))
 
   -- a job that does not stand in the order changed nothing
-  idle : {z : C .Z} {ks : List (C .J)} (l : Steps C z₀ ks₀ z ks) (x : ℕ) (k : C .J) → getElem? ks x ≡ some k → outcome (C .jobOf k .stage) ≡ none → ChangedNothing C l x
+  idle : {z : C .Z} {ks : List (C .J)} (l : Steps C z₀ ks₀ z ks) (x : ℕ) (k : C .J) → getElem? ks x ≡ some k → placed (C .jobOf k .stage) ≡ false → ChangedNothing C l x
   unfolding ChangedNothing
   idle start x k e h = tt
   idle (refused l y j r p q) x k e h = idle l x k e h
@@ -297,24 +339,32 @@ module _ (C : Calls) (P : Promises C) (js : List Arguments) (z₀ : C .Z) (ks₀
       s = C .jobOf j .stage
 
       go : ((¬ (x ≡ i)) × (getElem? ks x ≡ some k)) ⊎ ((x ≡ i) × (C .job r ≡ k))
-          → ((c : C .J) → getElem? ks x ≡ some c → outcome (C .jobOf c .stage) ≡ none → ChangedNothing C l x)
+          → ((c : C .J) → getElem? ks x ≡ some c → placed (C .jobOf c .stage) ≡ false → ChangedNothing C l x)
           → ChangedNothing C l x × (i ≡ x → C .zoneOf (C .zone r) ≡ C .zoneOf z)
       go (inl n) f = (f k (n .1) h, λ m. absurd (n .0 (sym m)))
       go (inr n) f =
           let a : step (C .jobOf j .arguments) (C .zoneOf z) s .stage ≡ C .jobOf k .stage =
           sym (ap (λ (v : Job). v .stage) (P .jobAfter z j r p q)) ∙ ap (λ (v : C .J). C .jobOf v .stage) (n .1) in
-          let u = quiet (C .jobOf j .arguments) (C .zoneOf z) s (ap outcome a ∙ h) in
+          let u = quiet (C .jobOf j .arguments) (C .zoneOf z) s (ap placed a ∙ h) in
           (f j (ap (getElem? ks) (n .0) ∙ g) (u .1), λ m. P .zoneAfter z j r p q ∙ u .0)
 
 -- ---- the end of the list
 
-ended-ends : (C : Calls) (ks : List (C .J)) (es : List End) → map (λ (k : C .J). C .jobOf k .stage) ks ≡ map ended es
+-- how a job has ended tells its stage
+end-stage : (s : Stage) (e : End) → endAt s ≡ some e → s ≡ ended e
+end-stage (beforeA n) e p = absurd (some≢none (sym p))
+end-stage (beforeB n) e p = absurd (some≢none (sym p))
+end-stage beforeFirst e p = absurd (some≢none (sym p))
+end-stage beforeSecond e p = absurd (some≢none (sym p))
+end-stage (ended d) e p = let q : d ≡ e = cc in ap ended q
+
+ended-ends : (C : Calls) (ks : List (C .J)) (es : List End) → map (λ (k : C .J). endAt (C .jobOf k .stage)) ks ≡ map some es
     → (i : ℕ) → ((getElem? ks i ≡ none) × (getElem? es i ≡ none)) ⊎ ((k : C .J) × (e : End) × (getElem? ks i ≡ some k) × (getElem? es i ≡ some e) × (C .jobOf k .stage ≡ ended e))
 ended-ends C [] [] p i = inl (refl, refl)
 ended-ends C [] (e ∷ es) p i = let z : _≡_ {A = ℕ} 0 1 = cc in absurd (omega arith)
 ended-ends C (k ∷ ks) [] p i = let z : _≡_ {A = ℕ} 0 1 = cc in absurd (omega arith)
-ended-ends C (k ∷ ks) (e ∷ es) p zero = inr (k, e, refl, refl, (let q : C .jobOf k .stage ≡ ended e = cc in q))
-ended-ends C (k ∷ ks) (e ∷ es) p (suc i) = ended-ends C ks es (let q : map (λ (k : C .J). C .jobOf k .stage) ks ≡ map ended es = cc in q) i
+ended-ends C (k ∷ ks) (e ∷ es) p zero = inr (k, e, refl, refl, end-stage (C .jobOf k .stage) e (let q : endAt (C .jobOf k .stage) ≡ some e = cc in q))
+ended-ends C (k ∷ ks) (e ∷ es) p (suc i) = ended-ends C ks es (let q : map (λ (k : C .J). endAt (C .jobOf k .stage)) ks ≡ map some es = cc in q) i
 
 module _ (C : Calls) (P : Promises C) (s : Story C) where
   abbrev pub js : List Arguments
@@ -372,7 +422,7 @@ module _ (C : Calls) (P : Promises C) (s : Story C) where
     where
       go : ((d : End) × Last i d) ⊎ ((f i ≡ fresh (J C js i)) × (getElem? (s .ends) i ≡ none)) → ⊥
       go (inl m) = ended≢2 (m .0, m .1 .stage) p
-      go (inr m) = some≢none (sym (ap outcome p) ∙ ap outcome (m .0) ∙ fresh-none (J C js i))
+      go (inr m) = true≢false (sym (ap placed p) ∙ ap placed (m .0) ∙ fresh-unplaced (J C js i))
 
   module _ (o : List ℕ) (v : Inv (J C js) x₀ g₀ (At (J C js) x₀ g₀ x₁ f) f o) (form : Form x₁) where
     all-shown : (k : Octets) → (v .put-off k ≡ []) × (serial (J C js) x₀ o .at k ≡ x₁ .at k)
@@ -382,7 +432,7 @@ module _ (C : Calls) (P : Promises C) (s : Story C) where
         go (shown a e w) = (a, e)
         go (emptied h g p ps a e b d u c w) = absurd (settled p (w .0 .stage))
 
-    each : (i : ℕ) → times i o ≡ stands (outcome (f i))
+    each : (i : ℕ) → times i o ≡ stands (f i)
     each i = let e : times i (v .put-off (key (J C js i .update .name))) ≡ 0 = ap (times i) (all-shown (key (J C js i .update .name)) .0) ∙ (unfold times in refl) in omega (arith, v .each i)
 
     zone-same : serial (J C js) x₀ o ≡ x₁
@@ -395,21 +445,25 @@ module _ (C : Calls) (P : Promises C) (s : Story C) where
         go (inl m) = m
         go (inr m) =
             let u : 0 < times i o = times-in i o h in
-            let t : times i o ≡ 0 = each i ∙ ap (λ (x : Stage). stands (outcome x)) (m .0) ∙ ap stands (fresh-none (J C js i)) in
+            let t : times i o ≡ 0 = each i ∙ ap stands (m .0) ∙ fresh-stands (J C js i) in
             absurd (omega arith)
 
-    turn : (x : Zone) (q : List ℕ) → ((i : ℕ) → In i q → (e : End) × Last i e) → Agree (J C js) (λ i. outcome (f i)) x q
+    turn : (x : Zone) (q : List ℕ) → ((i : ℕ) → In i q → (e : End) × Last i e) → Agree (J C js) f x q
         → InTurn js (s .ends) x q (serial (J C js) x q)
     unfolding Agree serial
     turn x [] h a = nobody
     turn x (i ∷ q) h a =
         let m = h i (inl refl) in
-        next i (J C js i) (m .0) (a .0 .0) (m .1 .arguments) (m .1 .is-end) (whole-sends (J C js i) x (a .0 .0) (a .0 .1)) (a .0 .2 ∙ ap outcome (m .1 .stage))
+        next i (J C js i) (m .0) (a .0 .0) (m .1 .arguments) (m .1 .is-end) (whole-sends (J C js i) x (a .0 .0) (a .0 .1)) (λ k. a .0 .2 k (m .0) (m .1 .stage))
         (turn (whole (J C js i) x .zone) q (λ k p. h k (inr p)) (a .1))
+
+    ends-times : (i : ℕ) (e : End) → getElem? (s .ends) i ≡ some e → times i o ≡ cond (not (isLeftOut e)) 1 0
+    ends-times i e p = each i ∙ ap stands (end-of i e p .stage)
 
     explains : Explains js (s .ends) x₀ x₁ o
     explains = record {
-      each = λ i e p. each i ∙ ap (λ (t : Stage). stands (outcome t)) (end-of i e p .stage);
+      once = λ i e p h. ends-times i e p ∙ ap (λ (b : Bool). cond (not b) 1 0) h;
+      notAtAll = λ i e p h. ends-times i e p ∙ ap (λ (b : Bool). cond (not b) 1 0) h;
       inTurn = subst (InTurn js (s .ends) x₀ o) zone-same (turn x₀ o last-in (v .agree));
     }
 
@@ -434,15 +488,18 @@ module _ (C : Calls) (P : Promises C) (s : Story C) (i : ℕ) (e : End) (p : get
       let d : Sent (ended e) (ownSteps C (s .steps) i) = subst (λ (t : Stage). Sent t (ownSteps C (s .steps) i)) (its-job .2) c in
       d n q
 
-  left-out : verdict e ≡ none → ChangedNothing C (s .steps) i
-  left-out q = idle C P (s .arguments) (s .firstZone) (s .firstJobs) (g₀ C P s) (b₀ C P s) (s .steps) i (its-job .0) (its-job .1) (ap outcome (its-job .2) ∙ q)
+  left-out : isLeftOut e ≡ true → ChangedNothing C (s .steps) i
+  left-out q = idle C P (s .arguments) (s .firstZone) (s .firstJobs) (g₀ C P s) (b₀ C P s) (s .steps) i (its-job .0) (its-job .1) (ap placed (its-job .2) ∙ ap not q)
+
+-- a job that stands in an order once is in it
+in-once : (i : ℕ) (o : List ℕ) → StandsOnce i o → In i o
+in-once i o h = times-some i o (omega arith)
 
 pub stronger : (C : Calls) → Promises C → Stronger C
 stronger C P s =
-    let m = run C P (s .arguments) (s .firstZone) (s .firstJobs) (g₀ C P s) (b₀ C P s) (s .steps) in (
-      record { order = m .0; explains = explains C P s (m .0) (m .1) (m .3); counts = λ i e n p. counts-right C P s i e p n; leftOut = left-out C P s },
-      m .2 .order,
-    )
+    let m = run C P (s .arguments) (s .firstZone) (s .firstJobs) (g₀ C P s) (b₀ C P s) (s .steps) in
+    let seen : (a b : ℕ) → AsSeen C s (m .0) a b = λ a b h p q. m .2 .order a b h (in-once a (m .0) p) (in-once b (m .0) q) in
+    (record { order = m .0; explains = explains C P s (m .0) (m .1) (m .3); asSeen = λ a b n. seen a b; counts = λ i e n p. counts-right C P s i e p n; leftOut = left-out C P s }, seen)
 
 pub demand3 : (C : Calls) → Promises C → Demand3 C
 demand3 C P s a = stronger C P s .0

@@ -10,7 +10,8 @@ use lib.Dec.{eqb}
 use lib.ListN.{getElem?}
 use Rattle.update.specs.Rules.{Zone, Answer, success, NXDOMAIN, YXDOMAIN, YXRRSET, NXRRSET, requestA, fits, requestB, removeAddress, removeName}
 use Rattle.job.specs.Jobs.{add, remove, Arguments, End, done, conflict, noRoom, gaveUp, notOurs, gone, kept, Stage, beforeA, beforeB, beforeFirst, beforeSecond, ended, Job, possible, fresh, after, passed, afterFirst, afterSecond, step, sent}
-use Rattle.serial.specs.Demand.{Calls, Promises, going, Fresh, noJob, oneMore, Steps, start, stepped, refused, ownSteps, most, EndsInTime, NeverRefused, SixAtMost, Delivered}
+use Rattle.serial.specs.Steps.{Calls, Promises, going, Fresh, noJob, oneMore, Steps, start, stepped, refused, ownSteps}
+use Rattle.serial.specs.Demand.{most, EndsInTime, NeverRefused, SixAtMost, Delivered}
 use Rattle.update.proofs.ZoneLaws.{some≢none}
 use Rattle.job.proofs.StageLaws.{each-among}
 use Rattle.serial.proofs.ListLaws.{set-which}

@@ -13,6 +13,7 @@ pub mod OnOctets
 pub mod KeepsOctets
 pub mod Spelled
 -- Lists of steps: P12, why removes can't be asked to answer alike, and names to be spelled alike.
+pub mod TwoJobs
 pub mod Cases
 pub mod RunningCases
 pub mod RemovesDiffer

@@ -11,7 +11,8 @@ use Rattle.lentzone.specs.Decode.{zoneIn}
 use Rattle.job.specs.declared.job.Job.{Job}
 use Rattle.step.specs.declared.Stepped.{Stepped}
 use Rattle.step.specs.Promise.{StepPromise}
-use Rattle.serial.specs.Demand.{Promises, RefusedKeeps, Delivered}
+use Rattle.serial.specs.Steps.{Promises}
+use Rattle.serial.specs.Demand.{RefusedKeeps, Delivered}
 use Rattle.serial.specs.OnOctets.{Left, StepOn, lent, byValue, onOctets}
 use Rattle.serial.proofs.InTime.{Taken, deliver}
 use Rattle.serial.proofs.Running.{Ok, kept-promises, taken, refused-keeps}

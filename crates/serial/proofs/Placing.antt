@@ -20,11 +20,12 @@ use Rattle.octets.specs.Count.{Octets}
 use Rattle.octets.proofs.CountLaws.{same-no, same-dec, counts-eq}
 use Rattle.update.specs.Rules.{Host, Zone, there, GoodHost, Form, NXDOMAIN, atName, heldBy, empty, newHost, left, fits}
 use Rattle.job.specs.Jobs.{add, remove, Arguments, End, done, conflict, noRoom, gaveUp, notOurs, gone, kept, Stage, beforeA, beforeB, beforeFirst, beforeSecond, ended, after, State, step}
-use Rattle.serial.specs.Demand.{Verdict, saidDone, saidConflict, removed, verdict, stands, times, In, Before}
+use Rattle.job.specs.Meaning.{stageNumber}
+use Rattle.serial.specs.Order.{sameAnswer, times, In, Before}
 use Rattle.update.proofs.ZoneLaws.{put, address, some≢none, option-case, owner-eq, owner-of, address-owner, good-left, put-at, put-off}
 use Rattle.update.proofs.BareLaws.{bare, owned-bare, full, address-full, new-full, bare-new, less-bare, lacks-one}
-use Rattle.serial.proofs.RequestLaws.{state, step-A-new, step-A-full, step-A-there, step-B-absent, step-B-other, step-B-full, step-B-done, step-1-other, step-1-own, step-2-kept, step-2-gone, step-1-absent, step-2-absent, whole, whole-new, whole-absent, whole-conflict, whole-done, whole-other, whole-kept, whole-gone, outcome}
-use Rattle.serial.proofs.OrderLaws.{Says, serial, Agree, form-serial, serial-append, agree-append, agree-ext, times-append, times-in, in-append, before-left, before-cross}
+use Rattle.serial.proofs.RequestLaws.{state, step-A-new, step-A-full, step-A-there, step-B-absent, step-B-other, step-B-full, step-B-done, step-1-other, step-1-own, step-2-kept, step-2-gone, step-1-absent, step-2-absent, whole, whole-new, whole-absent, whole-conflict, whole-done, whole-other, whole-kept, whole-gone, placed}
+use Rattle.serial.proofs.OrderLaws.{Answers, same-answers, remove-answers, Says, serial, Agree, form-serial, serial-append, agree-append, agree-ext, times-append, times-in, in-append, before-left, before-cross}
 
 abbrev pub Ended : Stage → Type 0
 Ended s = (e : End) × (s ≡ ended e)
@@ -67,8 +68,12 @@ B-live {n} h = let p : beforeB n ≡ ended (h .0) = h .1 in let z : _≡_ {A = �
 1-live : Ended beforeFirst → ⊥
 1-live h = let p : beforeFirst ≡ ended (h .0) = h .1 in let z : _≡_ {A = ℕ} 0 1 = cc in omega arith
 
-none≢2 : {s : Stage} → outcome s ≡ none → s ≡ beforeSecond → ⊥
-none≢2 h e = some≢none (sym (ap outcome e) ∙ h)
+unplaced≢2 : {s : Stage} → placed s ≡ false → s ≡ beforeSecond → ⊥
+unplaced≢2 h e = true≢false (sym (ap placed e) ∙ h)
+
+-- How often a job stands in the order and among those put off for its name.
+abbrev pub stands : Stage → ℕ
+stands s = cond (placed s) 1 0
 
 -- Two zones that differ at one name at most.
 abbrev Off : Octets → Zone → Zone → Type 0
@@ -119,8 +124,8 @@ module _ (J : ℕ → Arguments) (z₀ : Zone) (g₀ : Form z₀) where
   pub record Inv (A : Zone → Octets → List ℕ → Type 0) (f : ℕ → Stage) (o : List ℕ) : Type 0 where
     pub put-off : Octets → List ℕ
     pub names : (k : Octets) → A (serial J z₀ o) k (put-off k)
-    pub agree : Agree J (λ i. outcome (f i)) z₀ o
-    pub each : (x : ℕ) → times x o + times x (put-off (key (J x .update .name))) ≡ stands (outcome (f x))
+    pub agree : Agree J f z₀ o
+    pub each : (x : ℕ) → times x o + times x (put-off (key (J x .update .name))) ≡ stands (f x)
     pub fits : (i : ℕ) → Fits (J i) (f i)
 
   -- H a b: a had ended before b sent its first request.
@@ -158,7 +163,7 @@ module _ (J : ℕ → Arguments) (z₀ : Zone) (g₀ : Form z₀) where
     removes x w = subst (Fits (J x)) (w .stage) (fit x)
 
     -- at an absent name they change nothing
-    idle-list : (y : Zone) (ps : List ℕ) → y .at n ≡ none → All (Waits f n h) ps → (serial J y ps ≡ y) × Agree J (λ i. outcome (f i)) y ps
+    idle-list : (y : Zone) (ps : List ℕ) → y .at n ≡ none → All (Waits f n h) ps → (serial J y ps ≡ y) × Agree J f y ps
     unfolding serial Agree
     idle-list y [] e w = (refl, tt)
     idle-list y (p ∷ ps) e w =
@@ -166,8 +171,8 @@ module _ (J : ℕ → Arguments) (z₀ : Zone) (g₀ : Form z₀) where
         let m = idle-list y ps e (w .1) in (
           ap (λ (u : State). serial J (u .zone) ps) c ∙ m .0,
           (
-            (notOurs, ap (λ (u : State). u .stage) c, sym (ap outcome (w .0 .stage))),
-            subst (λ (u : State). Agree J (λ i. outcome (f i)) (u .zone) ps) (sym c) (m .1),
+            (notOurs, ap (λ (u : State). u .stage) c, remove-answers (J p) notOurs (f p) (removes p (w .0))),
+            subst (λ (u : State). Agree J f (u .zone) ps) (sym c) (m .1),
           ),
         )
 
@@ -198,14 +203,14 @@ module _ (J : ℕ → Arguments) (z₀ : Zone) (g₀ : Form z₀) where
       y₁-at : y₁ .at n ≡ none
       y₁-at = ap (y₁ .at) (sym (w .0 .name)) ∙ put-at (J p .update .name) none (put (J p .update .name) (some c) y)
 
-      cleared : (serial J y (p ∷ ps) ≡ y₁) × Agree J (λ i. outcome (f i)) y (p ∷ ps)
+      cleared : (serial J y (p ∷ ps) ≡ y₁) × Agree J f y (p ∷ ps)
       unfolding serial Agree
       cleared =
           let m = idle-list y₁ ps y₁-at (w .1) in (
             ap (λ (u : State). serial J (u .zone) ps) first-gone ∙ m .0,
             (
-              (gone, ap (λ (u : State). u .stage) first-gone, sym (ap outcome (w .0 .stage))),
-              subst (λ (u : State). Agree J (λ i. outcome (f i)) (u .zone) ps) (sym first-gone) (m .1),
+              (gone, ap (λ (u : State). u .stage) first-gone, remove-answers (J p) gone (f p) (removes p (w .0))),
+              subst (λ (u : State). Agree J f (u .zone) ps) (sym first-gone) (m .1),
             ),
           )
 
@@ -227,7 +232,7 @@ module _ (J : ℕ → Arguments) (z₀ : Zone) (g₀ : Form z₀) where
         λ q. subst (At z f (serial J z₀ (o ++ (p ∷ ps))) k) (sym (instead-off n [] (v .put-off) k q))
             (off-at z f n y (serial J z₀ (o ++ (p ∷ ps))) (λ k q. ap (λ (x : Zone). x .at k) zone ∙ y₁-off f (v .fits) n h y g p ps e u b w k q) k (v .put-off k) q (v .names k)),
       );
-      agree = agree-append J (λ i. outcome (f i)) z₀ o (p ∷ ps) (v .agree) (cleared f (v .fits) n h y g p ps e u b w .1);
+      agree = agree-append J f z₀ o (p ∷ ps) (v .agree) (cleared f (v .fits) n h y g p ps e u b w .1);
       each = λ x. each x (same-dec n (key (J x .update .name)));
       fits = v .fits;
     },
@@ -240,7 +245,7 @@ module _ (J : ℕ → Arguments) (z₀ : Zone) (g₀ : Form z₀) where
       zone : serial J z₀ (o ++ (p ∷ ps)) ≡ y₁ f (v .fits) n h y g p ps e u b w
       zone = serial-append J z₀ o (p ∷ ps) ∙ cleared f (v .fits) n h y g p ps e u b w .0
 
-      each : (x : ℕ) → Dec (n ≡ key (J x .update .name)) → times x (o ++ (p ∷ ps)) + times x (instead n [] (v .put-off) (key (J x .update .name))) ≡ stands (outcome (f x))
+      each : (x : ℕ) → Dec (n ≡ key (J x .update .name)) → times x (o ++ (p ∷ ps)) + times x (instead n [] (v .put-off) (key (J x .update .name))) ≡ stands (f x)
       each x (yes r) =
           let t : times x (instead n [] (v .put-off) (key (J x .update .name))) ≡ 0 =
           ap (λ (k : Octets). times x (instead n [] (v .put-off) k)) (sym r) ∙ ap (times x) (instead-here n [] (v .put-off)) ∙ (unfold times in refl) in
@@ -284,17 +289,27 @@ module _ (J : ℕ → Arguments) (z₀ : Zone) (g₀ : Form z₀) where
     fits-after : Fits (J i) s → (k : ℕ) → Fits (J k) (f′ k)
     fits-after e = stand-case f i s (λ k t. Fits (J k) t) e (λ k q. v .fits k)
 
+    -- a job without a place does not stand in the order
+    not-in : placed (f i) ≡ false → In i o → ⊥
+    not-in a h =
+        let l : 0 < times i o = times-in i o h in
+        let e : times i o + times i (v .put-off n) ≡ 0 = v .each i ∙ ap (λ (b : Bool). cond b 1 0) a in
+        omega arith
+
+    answers-after : (In i o → (d : End) → Answers (J i) d (f i) → Answers (J i) d s) → (x : ℕ) → In x o → (d : End) → Answers (J x) d (f x) → Answers (J x) d (f′ x)
+    answers-after h = stand-case f i s (λ k t. In k o → (d : End) → Answers (J k) d (f k) → Answers (J k) d t) h (λ k q p d a. a)
+
     over-after : (Ended (f i) → Ended s) → (H : ℕ → ℕ → Type 0) → Real H f o → Real H f′ o
     over-after e H r = record { over = λ a b x. stand-case f i s (λ k t. Ended (f k) → Ended t) e (λ k q p. p) a (r .over a b x); order = r .order }
 
     module _ (was : (k : Octets) → ¬ (n ≡ k) → At z f y k (v .put-off k)) (t : Fits (J i) s) where
       -- the order stays
-      hold : (z′ : Zone) (new : List ℕ) → Off n z′ z → ((x : ℕ) → In x o → outcome (f x) ≡ outcome (f′ x))
-          → ((x : ℕ) → key (J x .update .name) ≡ n → times x o + times x new ≡ stands (outcome (f′ x))) → At z′ f′ y n new → Inv (At z′ f′) f′ o
+      hold : (z′ : Zone) (new : List ℕ) → Off n z′ z → ((x : ℕ) → In x o → (d : End) → Answers (J x) d (f x) → Answers (J x) d (f′ x))
+          → ((x : ℕ) → key (J x .update .name) ≡ n → times x o + times x new ≡ stands (f′ x)) → At z′ f′ y n new → Inv (At z′ f′) f′ o
       hold z′ new ez ag ea m = record {
         put-off = instead n new (v .put-off);
         names = λ k. name k (same-dec n k);
-        agree = agree-ext J (λ k. outcome (f k)) (λ k. outcome (f′ k)) z₀ o ag (v .agree);
+        agree = agree-ext J f f′ z₀ o ag (v .agree);
         each = λ x. each x (same-dec n (key (J x .update .name)));
         fits = fits-after t;
       }
@@ -303,7 +318,7 @@ module _ (J : ℕ → Arguments) (z₀ : Zone) (g₀ : Form z₀) where
           name k (yes r) = subst (λ (u : Octets). At z′ f′ y u (instead n new (v .put-off) u)) r (subst (At z′ f′ y n) (sym (instead-here n new (v .put-off))) m)
           name k (no q) = subst (At z′ f′ y k) (sym (instead-off n new (v .put-off) k q)) (off y z′ (λ k q. refl) ez k (v .put-off k) q (was k q))
 
-          each : (x : ℕ) → Dec (n ≡ key (J x .update .name)) → times x o + times x (instead n new (v .put-off) (key (J x .update .name))) ≡ stands (outcome (f′ x))
+          each : (x : ℕ) → Dec (n ≡ key (J x .update .name)) → times x o + times x (instead n new (v .put-off) (key (J x .update .name))) ≡ stands (f′ x)
           each x (yes r) =
               let l : times x (instead n new (v .put-off) (key (J x .update .name))) ≡ times x new =
               ap (λ (k : Octets). times x (instead n new (v .put-off) k)) (sym r) ∙ ap (times x) (instead-here n new (v .put-off)) in
@@ -311,17 +326,17 @@ module _ (J : ℕ → Arguments) (z₀ : Zone) (g₀ : Form z₀) where
           each x (no r) =
               let l : times x (instead n new (v .put-off) (key (J x .update .name))) ≡ times x (v .put-off (key (J x .update .name))) =
               ap (times x) (instead-off n new (v .put-off) (key (J x .update .name)) r) in
-              let e : stands (outcome (f′ x)) ≡ stands (outcome (f x)) =
-              ap (λ (u : Stage). stands (outcome u)) (stand-other f i s x (λ p. r (ap (λ (k : ℕ). key (J k .update .name)) (sym p)))) in
+              let e : stands (f′ x) ≡ stands (f x) =
+              ap stands (stand-other f i s x (λ p. r (ap (λ (k : ℕ). key (J k .update .name)) (sym p)))) in
               omega (arith, v .each x)
 
       -- the job takes its place
-      place : (r : Verdict) → outcome (f i) ≡ none → outcome s ≡ some r → (y′ z′ : Zone) → whole (J i) y .zone ≡ y′ → Says (whole (J i) y .stage) (some r)
+      place : placed (f i) ≡ false → placed s ≡ true → (y′ z′ : Zone) → whole (J i) y .zone ≡ y′ → Says (J i) (whole (J i) y .stage) s
           → Off n y′ y → Off n z′ z → At z′ f′ y′ n (v .put-off n) → Inv (At z′ f′) f′ (o ++ (i ∷ []))
-      place r a b y′ z′ e c ey ez m = record {
+      place a b y′ z′ e c ey ez m = record {
         put-off = v .put-off;
         names = λ k. subst (λ (x : Zone). At z′ f′ x k (v .put-off k)) (sym zone) (name k (same-dec n k));
-        agree = agree-append J (λ k. outcome (f′ k)) z₀ o (i ∷ []) (agree-ext J (λ k. outcome (f k)) (λ k. outcome (f′ k)) z₀ o old (v .agree)) last;
+        agree = agree-append J f′ z₀ o (i ∷ []) (agree-ext J f f′ z₀ o (answers-after (λ p. absurd (not-in a p))) (v .agree)) last;
         each = λ x. each x (ℕ-discrete x i);
         fits = fits-after t;
       }
@@ -334,28 +349,22 @@ module _ (J : ℕ → Arguments) (z₀ : Zone) (g₀ : Form z₀) where
           name k (no q) = off y′ z′ ey ez k (v .put-off k) q (was k q)
 
           zero-i : times i o + times i (v .put-off n) ≡ 0
-          zero-i = v .each i ∙ ap stands a
+          zero-i = v .each i ∙ ap (λ (b : Bool). cond b 1 0) a
 
-          old : (x : ℕ) → In x o → outcome (f x) ≡ outcome (f′ x)
-          old x h = ap outcome (sym (stand-other f i s x (λ p. absent p)))
-            where
-              absent : x ≡ i → ⊥
-              absent p = let l : 0 < times i o = subst (λ (u : ℕ). 0 < times u o) p (times-in x o h) in omega (arith, zero-i)
+          last : Agree J f′ (serial J z₀ o) (i ∷ [])
+          last = unfold Agree in ((c .0, c .1, subst (Answers (J i) (c .0)) (sym (stand-same f i s)) (c .2)), tt)
 
-          last : Agree J (λ k. outcome (f′ k)) (serial J z₀ o) (i ∷ [])
-          last = unfold Agree in ((c .0, c .1, c .2 ∙ sym b ∙ sym (ap outcome (stand-same f i s))), tt)
-
-          each : (x : ℕ) → Dec (x ≡ i) → times x (o ++ (i ∷ [])) + times x (v .put-off (key (J x .update .name))) ≡ stands (outcome (f′ x))
+          each : (x : ℕ) → Dec (x ≡ i) → times x (o ++ (i ∷ [])) + times x (v .put-off (key (J x .update .name))) ≡ stands (f′ x)
           each x (yes p) =
-              subst (λ (u : ℕ). times u (o ++ (i ∷ [])) + times u (v .put-off (key (J u .update .name))) ≡ stands (outcome (f′ u))) (sym p)
+              subst (λ (u : ℕ). times u (o ++ (i ∷ [])) + times u (v .put-off (key (J u .update .name))) ≡ stands (f′ u)) (sym p)
               (let l : times i (o ++ (i ∷ [])) ≡ times i o + times i (i ∷ []) = times-append i o (i ∷ []) in
               let k : times i (i ∷ []) ≡ 1 = times-one i i ∙ ap (λ (u : Bool). cond u 1 0) (eq-eqb i i refl) in
-              let d : stands (outcome (f′ i)) ≡ 1 = ap stands (ap outcome (stand-same f i s) ∙ b) in
+              let d : stands (f′ i) ≡ 1 = ap stands (stand-same f i s) ∙ ap (λ (u : Bool). cond u 1 0) b in
               omega (arith, zero-i))
           each x (no q) =
               let l : times x (o ++ (i ∷ [])) ≡ times x o + times x (i ∷ []) = times-append x o (i ∷ []) in
               let k : times x (i ∷ []) ≡ 0 = times-one x i ∙ ap (λ (u : Bool). cond u 1 0) (ne-eqb x i q) in
-              let d : stands (outcome (f′ x)) ≡ stands (outcome (f x)) = ap (λ (u : Stage). stands (outcome u)) (stand-other f i s x q) in
+              let d : stands (f′ x) ≡ stands (f x) = ap stands (stand-other f i s x q) in
               omega (arith, v .each x)
 
       real-place : (Ended (f i) → ⊥) → (H : ℕ → ℕ → Type 0) → Real H f o → Real H f′ (o ++ (i ∷ []))
@@ -388,20 +397,20 @@ module _ (J : ℕ → Arguments) (z₀ : Zone) (g₀ : Form z₀) where
         emptied h g p ps a e b d u c
         (all-map (Waits f m h) (Waits (stand f i s) m h) (λ x t. waits-on z f (At z f) o v i s m h x (λ r. w h e b (subst (Waits f m h) r t)) t) (p ∷ ps) l)
 
-    still : (s : Stage) → outcome s ≡ outcome (f i) → (Ended (f i) → Ended s) → Fits j s → (s ≡ beforeSecond → ⊥)
+    still : (s : Stage) → placed s ≡ placed (f i) → (In i o → (d : End) → Answers j d (f i) → Answers j d s) → (Ended (f i) → Ended s) → Fits j s → (s ≡ beforeSecond → ⊥)
         → ((h : Host) → z .at m ≡ some h → bare h ≡ true → Waits f m h i → ⊥) → Next z s
-    still s e ends t s2 w = (
+    still s e says ends t s2 w = (
       o,
-      hold z f (At z f) o v i s was t z (v .put-off m) (λ k q. refl) (λ x h. keeps x)
+      hold z f (At z f) o v i s was t z (v .put-off m) (λ k q. refl) (answers-after z f (At z f) o v i s says)
           (λ x r. let l : times x (v .put-off m) ≡ times x (v .put-off (key (J x .update .name))) = ap (λ (k : Octets). times x (v .put-off k)) (sym r) in
-          let c : stands (outcome (f x)) ≡ stands (outcome (stand f i s x)) = ap stands (keeps x) in
+          let c : stands (f x) ≡ stands (stand f i s x) = ap (λ (b : Bool). cond b 1 0) (keeps x) in
           omega (arith, v .each x))
           (same-at s s2 w (v .names m)),
       over-after z f (At z f) o v i s ends,
     )
       where
-        keeps : (k : ℕ) → outcome (f k) ≡ outcome (stand f i s k)
-        keeps = stand-case f i s (λ k t. outcome (f k) ≡ outcome t) (sym e) (λ k q. refl)
+        keeps : (k : ℕ) → placed (f k) ≡ placed (stand f i s k)
+        keeps = stand-case f i s (λ k t. placed (f k) ≡ placed t) (sym e) (λ k q. refl)
 
     -- no name but z's in the order's zone, and all of those
     there-same : (k : Octets) → there (x₀ .at k) ≡ there (z .at k)
@@ -444,26 +453,32 @@ module _ (J : ℕ → Arguments) (z₀ : Zone) (g₀ : Form z₀) where
     via : (s : Stage) {w : State} → step j z s ≡ w → Next (w .zone) (w .stage) → Next (step j z s .zone) (step j z s .stage)
     via s e t = subst (λ (u : State). Next (u .zone) (u .stage)) (sym e) t
 
+    both-done : (n c : ℕ) → Answers j (done n) (ended (done c))
+    both-done n c = same-answers j (done n) (done c) (unfold sameAnswer stageNumber in refl)
+
+    both-conflict : (n c : ℕ) → Answers j (conflict n) (ended (conflict c))
+    both-conflict n c = same-answers j (conflict n) (conflict c) (unfold sameAnswer stageNumber in refl)
+
     -- a job that takes its place: it had not
-    module _ (live : Ended (f i) → ⊥) (a : outcome (f i) ≡ none) where
-      quietly : (s : Stage) → outcome s ≡ none → Fits j s → Next z s
-      quietly s e t = still s (e ∙ sym a) (λ d. absurd (live d)) t (none≢2 e) (λ h p b w. none≢2 a (w .stage))
+    module _ (live : Ended (f i) → ⊥) (a : placed (f i) ≡ false) where
+      quietly : (s : Stage) → placed s ≡ false → Fits j s → Next z s
+      quietly s e t = still s (e ∙ sym a) (λ p. absurd (not-in z f (At z f) o v i s a p)) (λ d. absurd (live d)) t (unplaced≢2 e) (λ h p b w. unplaced≢2 a (w .stage))
 
       -- and changes nothing
-      idle : (s : Stage) (r : Verdict) → outcome s ≡ some r → Fits j s → (s ≡ beforeSecond → ⊥) → (d : End) → whole j x₀ ≡ state x₀ (ended d) → verdict d ≡ some r → Next z s
-      idle s r b t s2 d c q = (
+      idle : (s : Stage) → placed s ≡ true → Fits j s → (s ≡ beforeSecond → ⊥) → (d : End) → whole j x₀ ≡ state x₀ (ended d) → Answers j d s → Next z s
+      idle s b t s2 d c q = (
         o ++ (i ∷ []),
-        place z f (At z f) o v i s was t r a b x₀ z (ap (λ (u : State). u .zone) c) (d, ap (λ (u : State). u .stage) c, q) (λ k q. refl) (λ k q. refl)
-            (same-at s s2 (λ h p b w. none≢2 a (w .stage)) (v .names m)),
+        place z f (At z f) o v i s was t a b x₀ z (ap (λ (u : State). u .zone) c) (d, ap (λ (u : State). u .stage) c, q) (λ k q. refl) (λ k q. refl)
+            (same-at s s2 (λ h p b w. unplaced≢2 a (w .stage)) (v .names m)),
         real-place z f (At z f) o v i s was t live,
       )
 
       -- and writes d at the name, as the whole job does
-      writes : (s : Stage) (r : Verdict) → outcome s ≡ some r → Fits j s → v .put-off m ≡ [] → (d : Host) → bare d ≡ false
-          → (c : End) → whole j x₀ ≡ state (put (j .update .name) (some d) x₀) (ended c) → verdict c ≡ some r → Next (put (j .update .name) (some d) z) s
-      writes s r b t l d full c e q = (
+      writes : (s : Stage) → placed s ≡ true → Fits j s → v .put-off m ≡ [] → (d : Host) → bare d ≡ false
+          → (c : End) → whole j x₀ ≡ state (put (j .update .name) (some d) x₀) (ended c) → Answers j c s → Next (put (j .update .name) (some d) z) s
+      writes s b t l d full c e q = (
         o ++ (i ∷ []),
-        place z f (At z f) o v i s was t r a b (put (j .update .name) (some d) x₀) (put (j .update .name) (some d) z) (ap (λ (u : State). u .zone) e) (c, ap (λ (u : State). u .stage) e, q)
+        place z f (At z f) o v i s was t a b (put (j .update .name) (some d) x₀) (put (j .update .name) (some d) z) (ap (λ (u : State). u .zone) e) (c, ap (λ (u : State). u .stage) e, q)
             (put-off (j .update .name) (some d) x₀) (put-off (j .update .name) (some d) z)
             (shown l (put-at (j .update .name) (some d) x₀ ∙ sym (put-at (j .update .name) (some d) z)) (λ h p w x u. put-bare d full z h p w)),
         real-place z f (At z f) o v i s was t live,
@@ -473,28 +488,25 @@ module _ (J : ℕ → Arguments) (z₀ : Zone) (g₀ : Form z₀) where
       defer : (z′ : Zone) → Fits j beforeSecond → Off m z′ z → At z′ (stand f i beforeSecond) x₀ m (v .put-off m ++ (i ∷ [])) → Next z′ beforeSecond
       defer z′ t ez c = (
         o,
-        hold z f (At z f) o v i beforeSecond was t z′ (v .put-off m ++ (i ∷ [])) ez (λ x h. old x h (ℕ-discrete x i)) (λ x r. each x r (ℕ-discrete x i)) c,
+        hold z f (At z f) o v i beforeSecond was t z′ (v .put-off m ++ (i ∷ [])) ez (answers-after z f (At z f) o v i beforeSecond (λ p. absurd (not-in z f (At z f) o v i beforeSecond a p)))
+            (λ x r. each x r (ℕ-discrete x i)) c,
         over-after z f (At z f) o v i beforeSecond (λ d. absurd (live d)),
       )
         where
           none-i : times i o + times i (v .put-off m) ≡ 0
-          none-i = v .each i ∙ ap stands a
+          none-i = v .each i ∙ ap (λ (b : Bool). cond b 1 0) a
 
-          old : (x : ℕ) → In x o → Dec (x ≡ i) → outcome (f x) ≡ outcome (stand f i beforeSecond x)
-          old x h (yes p) = let l : 0 < times i o = subst (λ (u : ℕ). 0 < times u o) p (times-in x o h) in absurd (omega (arith, none-i))
-          old x h (no q) = ap outcome (sym (stand-other f i beforeSecond x q))
-
-          each : (x : ℕ) → key (J x .update .name) ≡ m → Dec (x ≡ i) → times x o + times x (v .put-off m ++ (i ∷ [])) ≡ stands (outcome (stand f i beforeSecond x))
+          each : (x : ℕ) → key (J x .update .name) ≡ m → Dec (x ≡ i) → times x o + times x (v .put-off m ++ (i ∷ [])) ≡ stands (stand f i beforeSecond x)
           each x r (yes p) =
-              subst (λ (u : ℕ). times u o + times u (v .put-off m ++ (i ∷ [])) ≡ stands (outcome (stand f i beforeSecond u))) (sym p)
+              subst (λ (u : ℕ). times u o + times u (v .put-off m ++ (i ∷ [])) ≡ stands (stand f i beforeSecond u)) (sym p)
               (let l : times i (v .put-off m ++ (i ∷ [])) ≡ times i (v .put-off m) + times i (i ∷ []) = times-append i (v .put-off m) (i ∷ []) in
               let k : times i (i ∷ []) ≡ 1 = times-one i i ∙ ap (λ (u : Bool). cond u 1 0) (eq-eqb i i refl) in
-              let d : stands (outcome (stand f i beforeSecond i)) ≡ 1 = ap (λ (u : Stage). stands (outcome u)) (stand-same f i beforeSecond) in
+              let d : stands (stand f i beforeSecond i) ≡ 1 = ap stands (stand-same f i beforeSecond) in
               omega (arith, none-i))
           each x r (no q) =
               let l : times x (v .put-off m ++ (i ∷ [])) ≡ times x (v .put-off m) + times x (i ∷ []) = times-append x (v .put-off m) (i ∷ []) in
               let k : times x (i ∷ []) ≡ 0 = times-one x i ∙ ap (λ (u : Bool). cond u 1 0) (ne-eqb x i q) in
-              let d : stands (outcome (stand f i beforeSecond x)) ≡ stands (outcome (f x)) = ap (λ (u : Stage). stands (outcome u)) (stand-other f i beforeSecond x q) in
+              let d : stands (stand f i beforeSecond x) ≡ stands (f x) = ap stands (stand-other f i beforeSecond x q) in
               let e : times x (v .put-off (key (J x .update .name))) ≡ times x (v .put-off m) = ap (λ (k : Octets). times x (v .put-off k)) r in
               omega (arith, v .each x)
 
@@ -510,10 +522,10 @@ module _ (J : ℕ → Arguments) (z₀ : Zone) (g₀ : Form z₀) where
           option-case (atName (j .update) z)
           (λ e. cases (ltb (z .size) 64)
           (λ r. via (beforeA c) (step-A-new j z c e r)
-          (writes live-A (ap outcome fi) (ended (done (suc c))) saidDone refl tt (absent-x e .0) (newHost (j .update)) (new-full (j .update)) (done 1)
-          (whole-new j x₀ kind-A (absent-x e .1) (let l : z .size < 64 = ltb-true (z .size) 64 r in omega (arith, size-same))) refl))
-          (λ r. via (beforeA c) (step-A-full j z c e r) (quietly live-A (ap outcome fi) (ended (noRoom (suc c))) refl tt)))
-          (λ h e. via (beforeA c) (step-A-there j z c h e) (quietly live-A (ap outcome fi) (beforeB (suc c)) refl kind-A))
+          (writes live-A (ap placed fi) (ended (done (suc c))) refl tt (absent-x e .0) (newHost (j .update)) (new-full (j .update)) (done 1)
+          (whole-new j x₀ kind-A (absent-x e .1) (let l : z .size < 64 = ltb-true (z .size) 64 r in omega (arith, size-same))) (both-done 1 (suc c))))
+          (λ r. via (beforeA c) (step-A-full j z c e r) (quietly live-A (ap placed fi) (ended (noRoom (suc c))) refl tt)))
+          (λ h e. via (beforeA c) (step-A-there j z c h e) (quietly live-A (ap placed fi) (beforeB (suc c)) refl kind-A))
 
     module _ (c : ℕ) (fi : f i ≡ beforeB c) where
       kind-B : j .kind ≡ add
@@ -527,14 +539,14 @@ module _ (J : ℕ → Arguments) (z₀ : Zone) (g₀ : Form z₀) where
       again n = go (eqb n 6)
         where
           go : (t : Bool) → Next z (cond t (ended (gaveUp n)) (beforeA n))
-          go true = quietly live-B (ap outcome fi) (ended (gaveUp n)) refl tt
-          go false = quietly live-B (ap outcome fi) (beforeA n) refl kind-B
+          go true = quietly live-B (ap placed fi) (ended (gaveUp n)) refl tt
+          go false = quietly live-B (ap placed fi) (beforeA n) refl kind-B
 
       other-B : (h : Host) → z .at m ≡ some h → heldBy (j .update .dhcid) (h .owner) ≡ false → Next z (ended (conflict (suc c)))
       other-B h e q =
           let g = owner-x h e in
-          idle live-B (ap outcome fi) (ended (conflict (suc c))) saidConflict refl tt (ended≢2 (conflict (suc c), refl)) (conflict 2)
-          (whole-conflict j x₀ (g .0) (g .1) kind-B (ap (heldBy (j .update .dhcid)) (g .2) ∙ q)) refl
+          idle live-B (ap placed fi) (ended (conflict (suc c))) refl tt (ended≢2 (conflict (suc c), refl)) (conflict 2)
+          (whole-conflict j x₀ (g .0) (g .1) kind-B (ap (heldBy (j .update .dhcid)) (g .2) ∙ q)) (both-conflict 2 (suc c))
 
       done-B : (h : Host) → z .at m ≡ some h → heldBy (j .update .dhcid) (h .owner) ≡ true → fits (j .update) (left (j .update .family) (j .policy) h) ≡ true
           → Next (put (j .update .name) (some (address (j .update) true (left (j .update .family) (j .policy) h))) z) (ended (done (suc c)))
@@ -550,7 +562,7 @@ module _ (J : ℕ → Arguments) (z₀ : Zone) (g₀ : Form z₀) where
           full = address-full (j .update) (left (j .update .family) (j .policy) h) (good-left (j .update .family) (j .policy) h good) r
 
           go : At z f x₀ m (v .put-off m) → Next (put (j .update .name) (some d) z) (ended (done (suc c)))
-          go (shown a p w) = writes live-B (ap outcome fi) (ended (done (suc c))) saidDone refl tt a d full (done 2) (whole-done j x₀ h (p ∙ e) kind-B q r) refl
+          go (shown a p w) = writes live-B (ap placed fi) (ended (done (suc c))) refl tt a d full (done 2) (whole-done j x₀ h (p ∙ e) kind-B q r) (both-done 2 (suc c))
           go (emptied k g p ps a l b t u n w) =
               let fl = flush z f o v m k g p ps a t u n w in
               let y : Zone = serial J z₀ (o ++ (p ∷ ps)) in
@@ -561,8 +573,8 @@ module _ (J : ℕ → Arguments) (z₀ : Zone) (g₀ : Form z₀) where
               let wh : whole j y ≡ state (put (j .update .name) (some d) y) (ended (done 1)) =
               subst (λ (x : Host). whole j y ≡ state (put (j .update .name) (some x) y) (ended (done 1))) (sym s) (whole-new j y kind-B ya (omega (arith, form .few))) in (
                 (o ++ (p ∷ ps)) ++ (i ∷ []),
-                place z f (Cleared m z f) (o ++ (p ∷ ps)) (fl .0) i (ended (done (suc c))) (λ x q. fl .0 .names x .1 q) tt saidDone (ap outcome fi) refl (put (j .update .name) (some d) y)
-                    (put (j .update .name) (some d) z) (ap (λ (u : State). u .zone) wh) (done 1, ap (λ (u : State). u .stage) wh, refl) (put-off (j .update .name) (some d) y) (put-off (j .update .name) (some d) z)
+                place z f (Cleared m z f) (o ++ (p ∷ ps)) (fl .0) i (ended (done (suc c))) (λ x q. fl .0 .names x .1 q) tt (ap placed fi) refl (put (j .update .name) (some d) y)
+                    (put (j .update .name) (some d) z) (ap (λ (u : State). u .zone) wh) (done 1, ap (λ (u : State). u .stage) wh, both-done 1 (suc c)) (put-off (j .update .name) (some d) y) (put-off (j .update .name) (some d) z)
                     (shown (fl .0 .names m .0 refl .1) (put-at (j .update .name) (some d) y ∙ sym (put-at (j .update .name) (some d) z)) (λ h p w x u. put-bare d full z h p w)),
                 λ H r. real-place z f (Cleared m z f) (o ++ (p ∷ ps)) (fl .0) i (ended (done (suc c))) (λ x q. fl .0 .names x .1 q) tt live-B H (fl .1 H r),
               )
@@ -584,7 +596,7 @@ module _ (J : ℕ → Arguments) (z₀ : Zone) (g₀ : Form z₀) where
           (λ h e. cases (heldBy (j .update .dhcid) (h .owner))
           (λ q. cases (fits (j .update) (left (j .update .family) (j .policy) h))
           (λ r. via (beforeB c) (step-B-done j z h e c q r) (done-B h e q r))
-          (λ r. via (beforeB c) (step-B-full j z h e c q r) (quietly live-B (ap outcome fi) (ended (noRoom (suc c))) refl tt)))
+          (λ r. via (beforeB c) (step-B-full j z h e c q r) (quietly live-B (ap placed fi) (ended (noRoom (suc c))) refl tt)))
           (λ q. via (beforeB c) (step-B-other j z h e c q) (other-B h e q)))
 
     module _ (fi : f i ≡ beforeFirst) where
@@ -595,7 +607,7 @@ module _ (J : ℕ → Arguments) (z₀ : Zone) (g₀ : Form z₀) where
       live-1 d = 1-live (subst Ended fi d)
 
       not-ours-1 : whole j x₀ ≡ state x₀ (ended notOurs) → Next z (ended notOurs)
-      not-ours-1 w = idle live-1 (ap outcome fi) (ended notOurs) removed refl tt (ended≢2 (notOurs, refl)) notOurs w refl
+      not-ours-1 w = idle live-1 (ap placed fi) (ended notOurs) refl tt (ended≢2 (notOurs, refl)) notOurs w (remove-answers j notOurs (ended notOurs) kind-1)
 
       own-1 : (h : Host) → z .at m ≡ some h → heldBy (j .update .dhcid) (h .owner) ≡ true → Next (put (j .update .name) (some (address (j .update) false h)) z) beforeSecond
       own-1 h e q = go (v .names m)
@@ -617,7 +629,7 @@ module _ (J : ℕ → Arguments) (z₀ : Zone) (g₀ : Form z₀) where
 
           on : (k : Host) → z .at m ≡ some k → (x : ℕ) → Waits f m k x → Waits (stand f i beforeSecond) m c x
           on k l x r = record {
-            stage = stand-other f i beforeSecond x (λ p. none≢2 (ap outcome fi) (ap f (sym p) ∙ r .stage)) ∙ r .stage;
+            stage = stand-other f i beforeSecond x (λ p. unplaced≢2 (ap placed fi) (ap f (sym p) ∙ r .stage)) ∙ r .stage;
             name = r .name;
             owner = address-owner (j .update) false h ∙ ap (λ (u : Host). u .owner) (the-same h k e l) ∙ r .owner;
           }
@@ -625,13 +637,13 @@ module _ (J : ℕ → Arguments) (z₀ : Zone) (g₀ : Form z₀) where
           go : At z f x₀ m (v .put-off m) → Next z′ beforeSecond
           go (shown a p w) =
               cases (bare c)
-              (λ b. defer live-1 (ap outcome fi) z′ kind-1 (put-off (j .update .name) (some c) z)
+              (λ b. defer live-1 (ap placed fi) z′ kind-1 (put-off (j .update .name) (some c) z)
               (emptied c h i [] (ap (λ (l : List ℕ). l ++ (i ∷ [])) a) (put-at (j .update .name) (some c) z) b (p ∙ e) (sym (address-owner (j .update) false h)) b (me, tt)))
-              (λ b. writes live-1 (ap outcome fi) beforeSecond removed refl kind-1 a c b kept
-              (whole-kept j x₀ h (p ∙ e) kind-1 q (rw held-c (sym (owned-bare (j .update) c held-c) ∙ b))) refl)
+              (λ b. writes live-1 (ap placed fi) beforeSecond refl kind-1 a c b kept
+              (whole-kept j x₀ h (p ∙ e) kind-1 q (rw held-c (sym (owned-bare (j .update) c held-c) ∙ b))) (remove-answers j kept beforeSecond kind-1))
           go (emptied k g p ps a l b t u n w) =
               let s : h ≡ k = the-same h k e l in
-              defer live-1 (ap outcome fi) z′ kind-1 (put-off (j .update .name) (some c) z)
+              defer live-1 (ap placed fi) z′ kind-1 (put-off (j .update .name) (some c) z)
               (emptied c g p (ps ++ (i ∷ [])) (ap (λ (l : List ℕ). l ++ (i ∷ [])) a) (put-at (j .update .name) (some c) z) (less-bare (j .update) h (form .hosts m h e) q (ap bare s ∙ b)) t
               (u ∙ sym (address-owner (j .update) false h ∙ ap (λ (x : Host). x .owner) s)) n
               (all-more (Waits (stand f i beforeSecond) m c) (p ∷ ps) i me (all-map (Waits f m k) (Waits (stand f i beforeSecond) m c) (on k l) (p ∷ ps) w)))
@@ -644,8 +656,11 @@ module _ (J : ℕ → Arguments) (z₀ : Zone) (g₀ : Form z₀) where
           (let g = owner-x h e in not-ours-1 (whole-other j x₀ (g .0) (g .1) kind-1 (ap (heldBy (j .update .dhcid)) (g .2) ∙ q)))))
 
     module _ (fi : f i ≡ beforeSecond) where
+      kind-2 : j .kind ≡ remove
+      kind-2 = subst (Fits j) fi (v .fits i)
+
       keep-2 : ((h : Host) → z .at m ≡ some h → bare h ≡ true → Waits f m h i → ⊥) → Next z (ended kept)
-      keep-2 w = still (ended kept) (sym (ap outcome fi)) (λ d. absurd (ended≢2 d fi)) tt (ended≢2 (kept, refl)) w
+      keep-2 w = still (ended kept) (sym (ap placed fi)) (λ p d a. remove-answers j d (ended kept) kind-2) (λ d. absurd (ended≢2 d fi)) tt (ended≢2 (kept, refl)) w
 
       gone-2 : (h : Host) → z .at m ≡ some h → (heldBy (j .update .dhcid) (h .owner) && empty h) ≡ true → Next (put (j .update .name) none z) (ended gone)
       gone-2 h e q = go (v .names m)
@@ -653,8 +668,8 @@ module _ (J : ℕ → Arguments) (z₀ : Zone) (g₀ : Form z₀) where
           own : heldBy (j .update .dhcid) (h .owner) ≡ true
           own = and-left (heldBy (j .update .dhcid) (h .owner)) (empty h) q
 
-          keeps : (k : ℕ) → outcome (f k) ≡ outcome (stand f i (ended gone) k)
-          keeps = stand-case f i (ended gone) (λ k t. outcome (f k) ≡ outcome t) (ap outcome fi) (λ k q. refl)
+          keeps : (k : ℕ) → placed (f k) ≡ placed (stand f i (ended gone) k)
+          keeps = stand-case f i (ended gone) (λ k t. placed (f k) ≡ placed t) (ap placed fi) (λ k q. refl)
 
           go : At z f x₀ m (v .put-off m) → Next (put (j .update .name) none z) (ended gone)
           go (shown a d w) =
@@ -662,9 +677,10 @@ module _ (J : ℕ → Arguments) (z₀ : Zone) (g₀ : Form z₀) where
           go (emptied k g p ps a l b t u n w) =
               let fl = flush z f o v m k g p ps a t u n w in (
                 o ++ (p ∷ ps),
-                hold z f (Cleared m z f) (o ++ (p ∷ ps)) (fl .0) i (ended gone) (λ x q. fl .0 .names x .1 q) tt (put (j .update .name) none z) [] (put-off (j .update .name) none z) (λ x h. keeps x)
+                hold z f (Cleared m z f) (o ++ (p ∷ ps)) (fl .0) i (ended gone) (λ x q. fl .0 .names x .1 q) tt (put (j .update .name) none z) [] (put-off (j .update .name) none z)
+                    (answers-after z f (Cleared m z f) (o ++ (p ∷ ps)) (fl .0) i (ended gone) (λ p d a. remove-answers j d (ended gone) kind-2))
                     (λ x r. let c : times x [] ≡ times x (fl .0 .put-off (key (J x .update .name))) = ap (times x) (sym (ap (fl .0 .put-off) r ∙ fl .0 .names m .0 refl .1)) in
-                    let s : stands (outcome (f x)) ≡ stands (outcome (stand f i (ended gone) x)) = ap stands (keeps x) in
+                    let s : stands (f x) ≡ stands (stand f i (ended gone) x) = ap (λ (b : Bool). cond b 1 0) (keeps x) in
                     omega (arith, fl .0 .each x))
                     (shown refl (fl .0 .names m .0 refl .0 ∙ sym (put-at (j .update .name) none z)) (λ c r b x u. some≢none (sym r ∙ put-at (j .update .name) none z))),
                 λ H r. over-after z f (Cleared m z f) (o ++ (p ∷ ps)) (fl .0) i (ended gone) (λ d. absurd (ended≢2 d fi)) H (fl .1 H r),
@@ -689,4 +705,4 @@ module _ (J : ℕ → Arguments) (z₀ : Zone) (g₀ : Form z₀) where
     move beforeFirst fi = move-1 fi
     move beforeSecond fi = move-2 fi
     move (ended e) fi =
-        unfold step in still (ended e) (sym (ap outcome fi)) (λ d. (e, refl)) tt (ended≢2 (e, refl)) (λ h p b w. ended≢2 (e, fi) (w .stage))
+        unfold step in still (ended e) (sym (ap placed fi)) (λ p d a. subst (Answers j d) fi a) (λ d. (e, refl)) tt (ended≢2 (e, refl)) (λ h p b w. ended≢2 (e, fi) (w .stage))

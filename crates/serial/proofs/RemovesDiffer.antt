@@ -14,7 +14,9 @@ use Rattle.octets.specs.Count.{member}
 use Rattle.addresses.specs.Addresses.{including, excluding}
 use Rattle.update.specs.Rules.{Zone, with, heldBy, empty, requestA, left, fits, writeB, requestB, removeAddress, removeName, withName, withoutName, withAddress, withoutAddress, deleteName}
 use Rattle.job.specs.Jobs.{Arguments, End, done, conflict, gone, kept, Stage, ended, fresh, after, afterFirst, afterSecond, step, Sends, hasEnded, sends}
-use Rattle.serial.specs.Demand.{going, times, Story}
+use Rattle.serial.specs.Steps.{going}
+use Rattle.serial.specs.Order.{times}
+use Rattle.serial.specs.Demand.{Story}
 use Rattle.update.proofs.ZoneLaws.{some≢none}
 use Rattle.serial.proofs.Demand.{js}
 use Rattle.serial.specs.P12.{pipe, xDhcid, xRemoves, oneAddress, xHost, heldByX}

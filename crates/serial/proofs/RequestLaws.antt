@@ -1,7 +1,7 @@
 -- One step, and a whole job, by what stands at the job's name: all that the proofs above this file know of a request. Assumes nothing.
 use mathlib.Core.Path.{_≡_, refl, sym, _∙_, ap, subst}
-use mathlib.Core.Bool.{Bool, true, false, _&&_}
-use mathlib.Core.Option.{Option, none, some}
+use mathlib.Core.Bool.{Bool, true, false, not, _&&_, true≢false}
+use mathlib.Core.Option.{none, some}
 use Prim.Native.Nat.{ℕ, suc, _<_}
 use lib.Dec.{ltb}
 use borrow.Author.Tests.{ltb-true, ltb-false, lt-ltb}
@@ -9,8 +9,8 @@ use borrow.Table.Steps.{cases}
 use Rattle.octets.proofs.BoolLaws.{and-left, and-right}
 use Rattle.update.specs.Rules.{Host, Zone, Form, Update, NXDOMAIN, atName, heldBy, empty, newHost, left, fits}
 use Rattle.job.specs.Jobs.{add, remove, Arguments, End, done, conflict, noRoom, notOurs, gone, kept, Stage, beforeA, beforeB, beforeFirst, beforeSecond, ended, firstStage, fresh, after, afterFirst, afterSecond, State, step, Sends, hasEnded, sends}
-use Rattle.serial.specs.Demand.{Verdict, removed, verdict}
-use Rattle.update.proofs.ZoneLaws.{put, address, some≢none, option-case, put-at, A-new, A-full, A-there, B-absent, B-other, B-full, B-done, remove-address-absent, remove-address-other, remove-address-own, remove-name-absent, remove-name-other, remove-name-kept, remove-name-gone}
+use Rattle.serial.specs.Order.{isLeftOut}
+use Rattle.update.proofs.ZoneLaws.{put, address, option-case, put-at, A-new, A-full, A-there, B-absent, B-other, B-full, B-done, remove-address-absent, remove-address-other, remove-address-own, remove-name-absent, remove-name-other, remove-name-kept, remove-name-gone}
 use Rattle.request.proofs.RequestLaws.{form-lasts, A-effect, B-effect, remove-address-effect, remove-name-effect}
 
 abbrev pub state : Zone → Stage → State
@@ -154,16 +154,17 @@ module _ (j : Arguments) (z : Zone) where
 
 -- ---- a step after which the job does not stand in the order changed nothing
 
-abbrev pub outcome : Stage → Option Verdict
-outcome (beforeA n) = none
-outcome (beforeB n) = none
-outcome beforeFirst = none
-outcome beforeSecond = some removed
-outcome (ended e) = verdict e
+-- A job at this stage has its place in the order, or is put off until it takes one.
+abbrev pub placed : Stage → Bool
+placed (beforeA n) = false
+placed (beforeB n) = false
+placed beforeFirst = false
+placed beforeSecond = true
+placed (ended e) = not (isLeftOut e)
 
 module _ (j : Arguments) (z : Zone) where
   abbrev Quiet : Stage → State → Type 0
-  Quiet s w = outcome (w .stage) ≡ none → (w .zone ≡ z) × (outcome s ≡ none)
+  Quiet s w = placed (w .stage) ≡ false → (w .zone ≡ z) × (placed s ≡ false)
 
   quiet-by : (s : Stage) {w : State} → step j z s ≡ w → Quiet s w → Quiet s (step j z s)
   quiet-by s e h = subst (Quiet s) (sym e) h
@@ -171,20 +172,20 @@ module _ (j : Arguments) (z : Zone) where
   pub quiet : (s : Stage) → Quiet s (step j z s)
   quiet (beforeA n) =
       option-case (atName (j .update) z)
-      (λ e. cases (ltb (z .size) 64) (λ r. quiet-by (beforeA n) (step-A-new j z n e r) (λ p. absurd (some≢none p))) (λ r. quiet-by (beforeA n) (step-A-full j z n e r) (λ p. (refl, refl))))
+      (λ e. cases (ltb (z .size) 64) (λ r. quiet-by (beforeA n) (step-A-new j z n e r) (λ p. absurd (true≢false p))) (λ r. quiet-by (beforeA n) (step-A-full j z n e r) (λ p. (refl, refl))))
       (λ h e. quiet-by (beforeA n) (step-A-there j z n h e) (λ p. (refl, refl)))
   quiet (beforeB n) =
       option-case (atName (j .update) z) (λ e. quiet-by (beforeB n) (step-B-absent j z n e) (λ p. (refl, refl)))
       (λ h e. cases (heldBy (j .update .dhcid) (h .owner))
-      (λ o. cases (fits (j .update) (left (j .update .family) (j .policy) h)) (λ r. quiet-by (beforeB n) (step-B-done j z h e n o r) (λ p. absurd (some≢none p)))
+      (λ o. cases (fits (j .update) (left (j .update .family) (j .policy) h)) (λ r. quiet-by (beforeB n) (step-B-done j z h e n o r) (λ p. absurd (true≢false p)))
       (λ r. quiet-by (beforeB n) (step-B-full j z h e n o r) (λ p. (refl, refl))))
       (λ o. quiet-by (beforeB n) (step-B-other j z h e n o) (λ p. (refl, refl))))
   quiet beforeFirst =
-      option-case (atName (j .update) z) (λ e. quiet-by beforeFirst (step-1-absent j z e) (λ p. absurd (some≢none p)))
-      (λ h e. cases (heldBy (j .update .dhcid) (h .owner)) (λ o. quiet-by beforeFirst (step-1-own j z h e o) (λ p. absurd (some≢none p)))
-      (λ o. quiet-by beforeFirst (step-1-other j z h e o) (λ p. absurd (some≢none p))))
+      option-case (atName (j .update) z) (λ e. quiet-by beforeFirst (step-1-absent j z e) (λ p. absurd (true≢false p)))
+      (λ h e. cases (heldBy (j .update .dhcid) (h .owner)) (λ o. quiet-by beforeFirst (step-1-own j z h e o) (λ p. absurd (true≢false p)))
+      (λ o. quiet-by beforeFirst (step-1-other j z h e o) (λ p. absurd (true≢false p))))
   quiet beforeSecond =
-      option-case (atName (j .update) z) (λ e. quiet-by beforeSecond (step-2-absent j z e) (λ p. absurd (some≢none p)))
-      (λ h e. cases (heldBy (j .update .dhcid) (h .owner) && empty h) (λ o. quiet-by beforeSecond (step-2-gone j z h e o) (λ p. absurd (some≢none p)))
-      (λ o. quiet-by beforeSecond (step-2-kept j z h e o) (λ p. absurd (some≢none p))))
+      option-case (atName (j .update) z) (λ e. quiet-by beforeSecond (step-2-absent j z e) (λ p. absurd (true≢false p)))
+      (λ h e. cases (heldBy (j .update .dhcid) (h .owner) && empty h) (λ o. quiet-by beforeSecond (step-2-gone j z h e o) (λ p. absurd (true≢false p)))
+      (λ o. quiet-by beforeSecond (step-2-kept j z h e o) (λ p. absurd (true≢false p))))
   quiet (ended e) = quiet-by (ended e) (step-ended j z e) (λ p. (refl, p))

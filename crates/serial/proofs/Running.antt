@@ -14,7 +14,8 @@ use Rattle.job.proofs.JobLaws.{possible-before, new-none, new-is, add-is, remov
 use Rattle.step.specs.declared.Stepped.{Stepped}
 use Rattle.step.specs.Promise.{stepRefusal, stepOf, StepPromise}
 use Rattle.step.proofs.AfterLaws.{listed-after, listed-of, full-of, unrefused, zone-after, job-after}
-use Rattle.serial.specs.Demand.{Promises, RefusedKeeps, Delivered}
+use Rattle.serial.specs.Steps.{Promises}
+use Rattle.serial.specs.Demand.{RefusedKeeps, Delivered}
 use Rattle.serial.specs.Running.{NewCall, newAdd, newRemove, running}
 use Rattle.serial.proofs.StageLaws.{possible-step}
 use Rattle.serial.proofs.InTime.{Taken, deliver}

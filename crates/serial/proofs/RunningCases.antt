@@ -18,7 +18,9 @@ use Rattle.step.specs.declared.lent.StepAnswer.{StepAnswer}
 use Rattle.step.specs.Promise.{StepPromise}
 use Rattle.step.specs.Lent.{StepPromiseIn}
 use Rattle.serial.specs.P12.{xRemoves, yAdds, oneAddress, heldByX, P12, Explained}
-use Rattle.serial.specs.Demand.{Calls, Promises, noJob, oneMore, start, stepped, Explains, HeldHaveAddress, Story}
+use Rattle.serial.specs.Steps.{Calls, Promises, noJob, oneMore, start, stepped}
+use Rattle.serial.specs.Order.{Explains}
+use Rattle.serial.specs.Demand.{HeldHaveAddress, Story}
 use Rattle.serial.specs.Running.{NewCall, running}
 use Rattle.lentzone.specs.Encode.{Holds}
 use Rattle.serial.specs.OnOctets.{lent, byValue, onOctets}

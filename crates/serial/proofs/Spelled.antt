@@ -12,7 +12,7 @@ use Rattle.job.specs.declared.job.Job.{Job}
 use Rattle.job.specs.Meaning.{argumentsOf, jobOf}
 use Rattle.step.specs.declared.Stepped.{Stepped}
 use Rattle.step.specs.Promise.{stepRefusal, StepPromise}
-use Rattle.serial.specs.Demand.{Calls, start, stepped, refused}
+use Rattle.serial.specs.Steps.{Calls, start, stepped, refused}
 use Rattle.serial.specs.Running.{running}
 use Rattle.serial.specs.OnOctets.{Left, StepOn, onOctets}
 use Rattle.serial.proofs.OnOctets.{returned, unrefused-in}

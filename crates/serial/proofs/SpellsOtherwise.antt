@@ -15,7 +15,9 @@ use Rattle.update.specs.Spelling.{Spelling, kept, respelled}
 use Rattle.update.proofs.ZoneLaws.{some≢none}
 use Rattle.job.specs.Jobs as jobs
 use Rattle.job.specs.Jobs.{Arguments, End, done, gone, Stage, ended, fresh, after, afterFirst, afterSecond, step, Sends, hasEnded, sends}
-use Rattle.serial.specs.Demand.{going, times, InTurn, nobody, next, Explains, Story, Serializable}
+use Rattle.serial.specs.Steps.{going}
+use Rattle.serial.specs.Order.{times, InTurn, nobody, next, Explains}
+use Rattle.serial.specs.Demand.{Story, Serializable}
 use Rattle.serial.specs.P12.{xDhcid, oneAddress, xHost, heldAt}
 use Rattle.serial.specs.Spelling.{spelledBySteps, spelledByJob, spelledInTurn, OBOE, oboe, xRemovesCapitals, xAddsSmall, SpellsOtherwise}
 use Rattle.serial.proofs.KeepsOctets.{respelled-there, respelled-idle}
@@ -177,7 +179,7 @@ only {z} (next {y = y} {o = o} (suc zero) j e d a b m v t) w h g sp =
 only (next (suc (suc i)) j e d a b m v t) w h g sp = absurd (some≢none (sym a))
 
 by-order : (o : List ℕ) (e : Explains both said z₀ last o) (sp : Spelling) → (o ≡ 0 ∷ 1 ∷ []) × (spelledInTurn (e .inTurn) sp (key oboe) ≡ some oboe)
-by-order o e sp = only (e .inTurn) stands-last (e .each 0 jobs.kept refl) (e .each 1 (done 2) refl) sp
+by-order o e sp = only (e .inTurn) stands-last (e .once 0 jobs.kept refl refl) (e .once 1 (done 2) refl refl) sp
 
 -- ---- the claim
 

@@ -1,4 +1,6 @@
--- The claim, over any calls that keep the promises.
+-- Lists of job steps, of any calls; whole jobs in an order; demand 3, the claim about both.
+pub mod Steps
+pub mod Order
 pub mod Demand
 -- The calls that run.
 pub mod Running

@@ -16,7 +16,7 @@ use Rattle.step.specs.declared.Stepped.{Stepped}
 use Rattle.step.specs.declared.lent.StepAnswer.{StepAnswer}
 use Rattle.step.specs.Promise.{StepPromise}
 use Rattle.step.specs.Lent.{StepPromiseIn}
-use Rattle.serial.specs.Demand.{Calls}
+use Rattle.serial.specs.Steps.{Calls}
 use Rattle.serial.specs.Running.{NewCall}
 
 -- What there is after a step: the refusal that it returned, the octets as they then are, and the job that it returned.

@@ -15,7 +15,9 @@ use Rattle.update.specs.Rules.{Host, Update, keepOthers}
 use Rattle.lentzone.specs.Encode.{SizedEntries, octetsOf}
 use Rattle.job.specs.declared.job.Job.{Job}
 use Rattle.job.specs.Jobs.{add, remove, Arguments, conflict, gone, ended}
-use Rattle.serial.specs.Demand.{Calls, Explains, Story, Serializable}
+use Rattle.serial.specs.Steps.{Calls}
+use Rattle.serial.specs.Order.{Explains}
+use Rattle.serial.specs.Demand.{Story, Serializable}
 use Rattle.serial.specs.Running.{running}
 use Rattle.serial.specs.OnOctets.{onOctets}
 

@@ -16,7 +16,7 @@ use Rattle.job.specs.Meaning.{jobOf}
 use Rattle.job.specs.Promise.{AddPromise, RemovePromise}
 use Rattle.step.specs.declared.Stepped.{Stepped}
 use Rattle.step.specs.Promise.{StepPromise}
-use Rattle.serial.specs.Demand.{Calls}
+use Rattle.serial.specs.Steps.{Calls}
 
 -- A new job call that was not refused: what it was given, and the job that it gave. The contracts of the two calls are all that is known.
 pub data NewCall : Arguments → Job → Type 0 where

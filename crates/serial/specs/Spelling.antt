@@ -14,7 +14,9 @@ use Rattle.update.specs.Meaning.{zoneOf}
 use Rattle.update.specs.Spelling.{Spelling, spellingOf, respelled}
 use Rattle.lentzone.specs.Decode.{zoneIn}
 use Rattle.job.specs.Jobs.{add, remove, Arguments, End, done, kept, Stage, step, Sends, hasEnded, sends}
-use Rattle.serial.specs.Demand.{Calls, Steps, start, stepped, refused, InTurn, nobody, next, Explains, Story}
+use Rattle.serial.specs.Steps.{Calls, Steps, start, stepped, refused}
+use Rattle.serial.specs.Order.{InTurn, nobody, next, Explains}
+use Rattle.serial.specs.Demand.{Story}
 use Rattle.serial.specs.Running.{running}
 use Rattle.serial.specs.OnOctets.{onOctets}
 use Rattle.serial.specs.P12.{xDhcid, address1}
