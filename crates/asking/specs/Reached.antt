@@ -1,27 +1,10 @@
 -- That the bounds are reached: lists of steps of the calls that run. Document 02, k).
 use mathlib.Core.Path.{_≡_}
-use mathlib.Core.List.{List, [], _∷_}
 use Prim.Native.Nat.{ℕ, _≤_}
-use Rattle.zone.specs.declared.Zone.{Zone}
-use Rattle.job.specs.declared.job.Job.{Job}
 use Rattle.job.specs.Jobs.{End, conflict, gaveUp, ended}
-use Rattle.serial.specs.Steps.{Steps, start, stepped, refused}
 use Rattle.serial.specs.Running.{running}
-use Rattle.serial.specs.P12.{ZoneValue, JobValue}
+use Rattle.serial.specs.Values.{Held}
 use Rattle.asking.specs.Asking.{Add, stage, requests, deletedBetween}
-
--- ---- values that a program can hold
-
--- Each job of a list is such a value.
-unfoldable pub Values : List Job → Type 0
-Values [] = Unit
-Values (k ∷ ks) = JobValue k × Values ks
-
--- So are the zone and the jobs that a list of steps begins with, and what each of its steps returns.
-unfoldable pub Held : {z₀ z : Zone} {ks₀ ks : List Job} → Steps running z₀ ks₀ z ks → Type 0
-Held {z₀ = z} {ks₀ = ks} start = ZoneValue z × Values ks
-Held (stepped l i k r g p q) = Held l × ZoneValue (r .zone) × JobValue (r .job)
-Held (refused l y k r p q) = Held l
 
 -- ---- the lists
 

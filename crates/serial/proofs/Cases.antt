@@ -1,26 +1,28 @@
 -- P12 and its like as lists of steps: calls made of the definitions themselves, and a zone where X holds a name. Assumes nothing.
-use mathlib.Core.Path.{_≡_, refl, sym, ap, subst}
-use mathlib.Core.Bool.{Bool, true, false, cond, _||_}
-use mathlib.Core.List.{[], _∷_}
+use mathlib.Core.Path.{_≡_, refl, sym, _∙_, ap, subst}
+use mathlib.Core.Bool.{Bool, true, false, cond, _||_, true≢false}
+use mathlib.Core.List.{List, [], _∷_}
+use mathlib.Core.Logic.{_⊎_, inl, inr}
 use mathlib.Core.Option.{none, some}
-use Prim.Native.Nat.{ℕ, zero, suc, _≤_}
+use Prim.Native.Nat.{ℕ, _≤_}
 use native.Mathlib.Omega.{arith}
-use lib.ListN.{getElem?}
 use Rattle.octets.specs.Compare.{sameOctets}
 use Rattle.dname.specs.Name.{key}
 use Rattle.octets.specs.Count.{Octets, member, distinct, Counts}
 use Rattle.addresses.specs.Addresses.{Family, four, six, Addresses, nothing, including, excluding}
 use Rattle.octets.proofs.CountLaws.{counts-nothing, counts-list}
-use Rattle.update.specs.Rules.{Host, Zone, there, GoodHost, Form, with, keepOthers, heldBy, empty, requestA, requestB, removeAddress, removeName, withName, withoutName, withAddress, withoutAddress, deleteName}
-use Rattle.job.specs.Jobs.{add, Arguments, End, conflict, gone, ended, Job, fresh, after, afterFirst, afterSecond, step, Sends, hasEnded, sends}
-use Rattle.serial.specs.P12.{pipe, xDhcid, yDhcid, address1, xPipe, xRemoves, yAdds, oneAddress, xHost, heldAt, heldByX}
+use Rattle.update.specs.Rules.{Host, Zone, there, GoodHost, Form, with, heldBy, empty, requestA, requestB, removeAddress, removeName, withName, withoutName, withAddress, withoutAddress, deleteName}
+use Rattle.job.specs.Meaning.{stageNumber}
+use Rattle.job.specs.Jobs.{Arguments, End, done, conflict, gone, beforeSecond, ended, Job, fresh, after, afterFirst, afterSecond, step, Sends, hasEnded, sends}
+use Rattle.serial.specs.P12.{pipe, xDhcid, yDhcid, address1, xRemoves, yAdds, alone, oneAddress, xHost, heldAt, heldByX}
 use Rattle.serial.specs.Steps.{Calls, Promises, noJob, oneMore, start, stepped}
-use Rattle.serial.specs.Order.{times, nobody, next, Explains}
+use Rattle.serial.specs.Order.{sameAnswer, times, InTurn, nobody, next, Explains}
 use Rattle.serial.specs.Demand.{Story, HeldHaveAddress, Serializable}
 use Rattle.update.proofs.ZoneLaws.{some≢none}
 use Rattle.serial.proofs.Demand.{stronger, demand3}
 use Rattle.serial.proofs.OrderLaws.{own-answer}
-use Rattle.serial.proofs.TwoJobs.{two-explain}
+use Rattle.serial.proofs.TwoJobs.{two-explain, of-two}
+use Rattle.serial.proofs.RequestLaws.{whole, whole-only}
 
 pub record Result : Type 0 where
   pub refusal : ℕ
@@ -60,9 +62,6 @@ by-rule = record {
 
 -- ---- X holds pipe, with one address
 
-unfoldable pub xAdds : Arguments
-xAdds = record { kind = add; update = xPipe; policy = keepOthers }
-
 module _ (s : Addresses) (few : s .count ≤ 4) (counted : Counts (s .count) (s .has)) where
   good-x : GoodHost (xHost s)
   unfolding xHost
@@ -93,7 +92,7 @@ module _ (s : Addresses) (few : s .count ≤ 4) (counted : Counts (s .count) (s 
       host false h e = absurd (some≢none (sym e))
 
 pub form-one : (n : Octets) → Form (heldAt n oneAddress)
-form-one = form-at oneAddress (unfold oneAddress in omega arith) (unfold oneAddress in counts-list (address1 ∷ []) (unfold distinct member in refl))
+form-one = form-at oneAddress (unfold alone in omega arith) (unfold alone in counts-list (address1 ∷ []) (unfold distinct member in refl))
 
 pub form-pipe : Form (heldByX oneAddress)
 unfolding heldByX
@@ -141,11 +140,11 @@ abbrev z₀ : Zone
 z₀ = heldByX oneAddress
 
 pub p12-ends : (r₄ z₀ xRemoves yAdds .job .stage ≡ ended gone) × (r₃ z₀ xRemoves yAdds .job .stage ≡ ended (conflict 2))
-unfolding heldByX xHost oneAddress xRemoves yAdds pipe xDhcid yDhcid step fresh requestA requestB removeAddress deleteName removeName after afterFirst afterSecond heldBy sameOctets key withAddress withoutAddress with including excluding withName withoutName empty member
+unfolding heldByX xHost alone xRemoves yAdds pipe xDhcid yDhcid step fresh requestA requestB removeAddress deleteName removeName after afterFirst afterSecond heldBy sameOctets key withAddress withoutAddress with including excluding withName withoutName empty member
 p12-ends = (refl, refl)
 
 p12-gone : r₄ z₀ xRemoves yAdds .zone .at (key pipe) ≡ none
-unfolding heldByX xHost oneAddress xRemoves yAdds pipe xDhcid yDhcid step fresh requestA requestB removeAddress deleteName removeName after afterFirst heldBy sameOctets key withAddress withoutAddress with including excluding withName withoutName empty member
+unfolding heldByX xHost alone xRemoves yAdds pipe xDhcid yDhcid step fresh requestA requestB removeAddress deleteName removeName after afterFirst heldBy sameOctets key withAddress withoutAddress with including excluding withName withoutName empty member
 p12-gone = refl
 
 pub p12 : Story byRule
@@ -157,7 +156,7 @@ unfolding heldByX
 p12-held k h d e o = go (sameOctets pipe k) e
   where
     go : (b : Bool) → cond b (some (xHost oneAddress)) none ≡ some h → empty h ≡ false
-    go true q = let r : xHost oneAddress ≡ h = cc in rw (sym r) (unfold xHost oneAddress empty in refl)
+    go true q = let r : xHost oneAddress ≡ h = cc in rw (sym r) (unfold xHost alone empty in refl)
     go false q = absurd (some≢none (sym q))
 
 pub p12-serial : Serializable byRule p12
@@ -173,10 +172,43 @@ p12-order =
     refl refl
   where
     y-conflict : Sends yAdds z₀ (fresh yAdds) z₀ (conflict 2)
-    y-conflict = unfold heldByX xHost oneAddress yAdds pipe xDhcid yDhcid step fresh requestA requestB after heldBy sameOctets key in sends (sends hasEnded)
+    y-conflict = unfold heldByX xHost alone yAdds pipe xDhcid yDhcid step fresh requestA requestB after heldBy sameOctets key in sends (sends hasEnded)
 
     x-gone : Sends xRemoves z₀ (fresh xRemoves) (r₄ z₀ xRemoves yAdds .zone) gone
-    x-gone = unfold heldByX xHost oneAddress xRemoves yAdds pipe xDhcid yDhcid step fresh requestA requestB removeAddress deleteName removeName after afterFirst afterSecond heldBy sameOctets key withAddress withoutAddress with including excluding withName withoutName empty member in sends (sends hasEnded)
+    x-gone = unfold heldByX xHost alone xRemoves yAdds pipe xDhcid yDhcid step fresh requestA requestB removeAddress deleteName removeName after afterFirst afterSecond heldBy sameOctets key withAddress withoutAddress with including excluding withName withoutName empty member in sends (sends hasEnded)
+
+-- Not as X first and Y after: then Y's add would be done.
+x-alone : whole xRemoves z₀ .stage ≡ ended gone
+unfolding whole heldByX xHost alone xRemoves pipe xDhcid step fresh removeAddress deleteName removeName afterFirst afterSecond heldBy sameOctets key withoutAddress with excluding withName withoutName empty member
+x-alone = refl
+
+y-after-x : whole yAdds (whole xRemoves z₀ .zone) .stage ≡ ended (done 1)
+unfolding whole heldByX xHost alone xRemoves yAdds pipe xDhcid yDhcid step fresh requestA requestB removeAddress deleteName removeName after afterFirst afterSecond heldBy sameOctets key withAddress withoutAddress with including excluding withName withoutName empty member
+y-after-x = refl
+
+x-then-y : {z : Zone} → InTurn (xRemoves ∷ yAdds ∷ []) (gone ∷ conflict 2 ∷ []) z₀ (0 ∷ 1 ∷ []) z → ⊥
+x-then-y (next {y = y} i j e d p q m v (next {y = x} i′ j′ e′ d′ p′ q′ m′ v′ t)) =
+    let s : xRemoves ≡ j = cc in
+    let s′ : yAdds ≡ j′ = cc in
+    let n : Sends xRemoves z₀ (fresh xRemoves) y d = subst (λ (u : Arguments). Sends u z₀ (fresh u) y d) (sym s) m in
+    let n′ : Sends yAdds y (fresh yAdds) x d′ = subst (λ (u : Arguments). Sends u y (fresh u) x d′) (sym s′) m′ in
+    let w : whole xRemoves z₀ .zone ≡ y = whole-only xRemoves z₀ y d gone x-alone n .0 in
+    let u : done 1 ≡ d′ = whole-only yAdds y x d′ (done 1) (ap (λ (k : Zone). whole yAdds k .stage) (sym w) ∙ y-after-x) n′ .1 in
+    let c : conflict 2 ≡ e′ = cc in
+    let r : sameAnswer d′ e′ ≡ true = v′ (ap (λ (k : Arguments). k .kind) (sym s′) ∙ (unfold yAdds in refl)) in
+    true≢false (sym r ∙ ap (λ (k : End). sameAnswer k e′) (sym u) ∙ ap (sameAnswer (done 1)) (sym c) ∙ (unfold sameAnswer stageNumber in refl))
+
+pub p12-no-other : (z : Zone) (o : List ℕ) → Explains (xRemoves ∷ yAdds ∷ []) (gone ∷ conflict 2 ∷ []) z₀ z o → o ≡ 1 ∷ 0 ∷ []
+p12-no-other z o x = go (of-two xRemoves yAdds gone (conflict 2) refl refl x)
+  where
+    go : (o ≡ 0 ∷ 1 ∷ []) ⊎ (o ≡ 1 ∷ 0 ∷ []) → o ≡ 1 ∷ 0 ∷ []
+    go (inl p) = absurd (x-then-y (subst (λ (u : List ℕ). InTurn (xRemoves ∷ yAdds ∷ []) (gone ∷ conflict 2 ∷ []) z₀ u z) p (x .inTurn)))
+    go (inr p) = p
+
+-- X has sent its first request when Y sends its own.
+pub p12-began : r₁ z₀ xRemoves yAdds .job .stage ≡ beforeSecond
+unfolding heldByX xHost alone xRemoves pipe xDhcid step fresh removeAddress afterFirst heldBy sameOctets key
+p12-began = refl
 
 -- The same from a zone that demand 3 does not ask about: X holds the name, with no address.
 abbrev bare₀ : Zone

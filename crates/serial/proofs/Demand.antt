@@ -15,9 +15,9 @@ use Rattle.octets.specs.Count.{Octets}
 use Rattle.addresses.specs.Addresses.{four}
 use Rattle.update.specs.Rules.{Zone, Form, keepOthers, Answer, success, NXDOMAIN, YXDOMAIN, YXRRSET, NXRRSET, requestA, fits, requestB, removeAddress, removeName}
 use Rattle.job.specs.Jobs.{Kind, add, remove, Arguments, End, gaveUp, notOurs, gone, kept, Stage, beforeA, beforeB, beforeFirst, beforeSecond, ended, Job, firstStage, fresh, after, passed, afterFirst, afterSecond, step, sent}
-use Rattle.serial.specs.Steps.{Calls, Promises, endAt, going, Fresh, noJob, oneMore, Steps, start, stepped, refused, ownSteps, ChangedNothing, HasEnded, EndedFirst}
+use Rattle.serial.specs.Steps.{Calls, Promises, endAt, going, Fresh, noJob, oneMore, Steps, start, stepped, refused, ownSteps, ChangedNothing, HasEnded, AtFirst, EndedFirst}
 use Rattle.serial.specs.Order.{isLeftOut, times, StandsOnce, In, Before, InTurn, nobody, next, Explains}
-use Rattle.serial.specs.Demand.{Story, Serializable, AsSeen, Demand3, Stronger, LeftOutIdle}
+use Rattle.serial.specs.Demand.{Story, AsSeen, Demand3, Stronger, LeftOutIdle}
 use Rattle.update.proofs.ZoneLaws.{address, some≢none, option-case, zone-eq, put-off}
 use Rattle.serial.proofs.ListLaws.{set-same, set-other, set-which}
 use Rattle.serial.proofs.RequestLaws.{form-step, whole, whole-sends, placed, quiet}
@@ -89,7 +89,7 @@ fits-fresh : (j : Arguments) (k : Kind) → j .kind ≡ k → Fits j (firstStage
 fits-fresh j add e = e
 fits-fresh j remove e = e
 
-fresh-unplaced : (j : Arguments) → placed (fresh j) ≡ false
+pub fresh-unplaced : (j : Arguments) → placed (fresh j) ≡ false
 unfolding fresh
 fresh-unplaced j = unplaced-first (j .kind)
 
@@ -246,7 +246,7 @@ module _ (C : Calls) (P : Promises C) (js : List Arguments) (z₀ : C .Z) (ks₀
 
   -- What is seen with a further step, of job i.
   abbrev Seen : {z : C .Z} {ks : List (C .J)} → Steps C z₀ ks₀ z ks → ℕ → ℕ → ℕ → Type 0
-  Seen {ks = ks} l i a b = EndedFirst C l a b ⊎ ((i ≡ b) × (ownSteps C l b ≡ 0) × HasEnded C ks a)
+  Seen {ks = ks} l i a b = EndedFirst C l a b ⊎ ((i ≡ b) × (ownSteps C l b ≡ 0) × HasEnded C a ks)
 
   -- If it is the first request of i, then i does not stand in the order yet.
   absorb : {z : C .Z} {ks : List (C .J)} (l : Steps C z₀ ks₀ z ks) (i : ℕ) (k : C .J) → getElem? ks i ≡ some k → (o : List ℕ) → Holds (C .zoneOf z) (stages C js ks) o
@@ -270,7 +270,7 @@ module _ (C : Calls) (P : Promises C) (js : List Arguments) (z₀ : C .Z) (ks₀
   So z ks H = (o : List ℕ) × Holds (C .zoneOf z) (stages C js ks) o × Orders H (stages C js ks) o × Form (C .zoneOf z)
 
   run : {z : C .Z} {ks : List (C .J)} (l : Steps C z₀ ks₀ z ks) → So z ks (EndedFirst C l)
-  unfolding EndedFirst
+  unfolding AtFirst
   run start = ([], begin, record { over = λ a b x. absurd x; order = λ a b x. absurd x }, g₀)
   run (refused l y k r p q) = run l
   run (stepped {z = z} {ks = ks} l i k r g p q) = go (run l)

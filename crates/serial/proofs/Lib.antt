@@ -24,3 +24,6 @@ pub mod P12Zones
 pub mod P12Steps
 pub mod P12Runs
 pub mod P12OnOctets
+-- What n) asks beyond demand 3: X leaves and comes back.
+pub mod XAdds
+pub mod TurnsRound

@@ -20,7 +20,8 @@ use Rattle.zone.specs.Meaning.{used, keyOf, keys, withKey, inOrder, allInOrder,
 use Rattle.update.specs.Meaning.{hostOf, zoneOf}
 use Rattle.lentzone.specs.Encode.{SizedEntry, SizedEntries, entryOctets, entriesOctets}
 use Rattle.request.proofs.PlaceLaws.{formed-all}
-use Rattle.serial.specs.P12.{pipe, xHost, heldByX, noNames, areOctets, ZoneValue}
+use Rattle.serial.specs.Values.{areOctets, ZoneValue}
+use Rattle.serial.specs.P12.{pipe, xHost, heldByX, noNames}
 
 -- ---- the places
 

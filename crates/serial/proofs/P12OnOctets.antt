@@ -16,7 +16,8 @@ use Rattle.job.specs.Meaning.{atStage}
 use Rattle.step.specs.Promise.{stepOf, StepPromise}
 use Rattle.step.specs.Lent.{StepPromiseIn}
 use Rattle.serial.specs.OnOctets.{onOctets}
-use Rattle.serial.specs.P12.{P12, ZoneValue, LentValue, P12OnOctets}
+use Rattle.serial.specs.Values.{ZoneValue, LentValue}
+use Rattle.serial.specs.P12.{P12, P12OnOctets}
 use Rattle.serial.proofs.RunningCases.{p12-octets, p12-mixed}
 use Rattle.serial.proofs.OneName.{others, oneName}
 use Rattle.serial.proofs.P12Zones.{full, bare, clear, full-value, bare-value, clear-value, full-formed, full-zone, clear-zone}

@@ -26,11 +26,13 @@ use Rattle.update.proofs.ZoneLaws.{some≢none}
 use Rattle.request.specs.Inner.{Spells}
 use Rattle.request.proofs.SpellingLaws.{spells-same, spelled-by}
 use Rattle.serial.specs.Running.{NewCall, newAdd, newRemove, running}
-use Rattle.serial.specs.P12.{pipe, xDhcid, yDhcid, address1, xRemoves, yAdds, oneAddress, xHost, heldByX, noNames, P12, areOctets, JobValue, P12Runs}
+use Rattle.serial.specs.Values.{areOctets, JobValue}
+use Rattle.serial.specs.P12.{pipe, xDhcid, yDhcid, net10, xRemoves, yAdds, alone, oneAddress, xHost, heldByX, noNames, P12, P12Runs}
 use Rattle.serial.proofs.Running.{Ok, kept-promises, taken}
 use Rattle.serial.proofs.RunningCases.{p12-runs}
 use Rattle.serial.proofs.P12Zones.{pipeName, ofX, full, bare, clear, full-value, bare-value, clear-value, full-formed, bare-formed, clear-formed, full-zone, bare-zone, clear-zone, held-spelled, clear-spelled}
-use Rattle.serial.proofs.P12Steps.{state, x-takes, y-asks, y-conflicts, x-deletes}
+use Rattle.serial.proofs.RequestLaws.{state}
+use Rattle.serial.proofs.P12Steps.{x-takes, y-asks, y-conflicts, x-deletes}
 use Rattle.serial.proofs.OneName.{no4, one4, octets-append}
 
 -- ---- the new jobs
@@ -38,12 +40,15 @@ use Rattle.serial.proofs.OneName.{no4, one4, octets-append}
 abbrev ofY : Dhcid
 ofY = record { octets = yDhcid }
 
--- of family 4 the first 4 octets
-abbrev pub addressX : Address
-addressX = record { octets = address1 ++ replicate 12 0 }
+-- 10.0.0.n: of family 4 the first 4 octets
+abbrev pub addressOf : ℕ → Address
+addressOf n = record { octets = net10 n ++ replicate 12 0 }
+
+abbrev addressX : Address
+addressX = addressOf 1
 
 abbrev addressY : Address
-addressY = record { octets = 10 ∷ 0 ∷ 0 ∷ 2 ∷ replicate 12 0 }
+addressY = addressOf 2
 
 abbrev pub kx : Job
 kx = freshRemove pipeName ofX 4 addressX
@@ -108,7 +113,7 @@ pub y-is : jobOf ky ≡ record { arguments = yAdds; stage = beforeA 0 }
 y-is = kept-promises .new yAdds ky new-y ∙ (unfold fresh yAdds in refl)
 
 address-goes : heldByX nothing ≡ heldByX oneAddress → bare ≡ full
-unfolding heldByX sameOctets pipe xHost oneAddress
+unfolding heldByX sameOctets pipe xHost alone
 address-goes e = let q : _≡_ {A = ℕ} 0 1 = ap count e in absurd (omega arith)
   where
     count : rules.Zone → ℕ
@@ -132,7 +137,7 @@ x-first = record {
   goodAgain = bare-formed;
   ok = taken .new-ok xRemoves kx new-x;
   same = address-goes;
-  spells = spells-same (nameOf (kx .name)) full bare (held-spelled no4 (one4 address1));
+  spells = spells-same (nameOf (kx .name)) full bare (held-spelled no4 (one4 (net10 1)));
 }
 
 -- Y's add, n requests sent, finds the name at its request A, and another owner at its request B.

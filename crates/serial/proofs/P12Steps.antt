@@ -1,42 +1,73 @@
--- The steps of P12 by the rules. Assumes nothing.
-use mathlib.Core.Path.{_≡_, refl, ap, fun-ext}
+-- The steps of P12 by the rules, and what X's name has with an address more or less. Assumes nothing.
+use mathlib.Core.Path.{_≡_, refl, _∙_, ap, fun-ext}
 use mathlib.Core.Bool.{Bool, true, false, cond, not, _&&_, _||_}
 use mathlib.Core.Option.{none, some}
-use Prim.Native.Nat.{ℕ, suc}
+use Prim.Native.Nat.{ℕ, suc, _-_}
 use Rattle.octets.specs.Compare.{sameOctets}
+use Rattle.octets.proofs.CompareLaws.{same-self}
 use Rattle.octets.specs.Count.{Octets, member}
-use Rattle.addresses.specs.Addresses.{Family, four, six, nothing, excluding}
+use Rattle.addresses.specs.Addresses.{Family, four, six, Addresses, nothing, including, excluding}
 use Rattle.dname.specs.Name.{key}
 use Rattle.update.specs.Rules as rules
-use Rattle.update.specs.Rules.{with, withName, withoutName, withoutAddress, heldBy, empty, requestA, requestB, removeAddress, deleteName, removeName}
-use Rattle.job.specs.Jobs.{Stage, State, beforeA, beforeB, beforeFirst, beforeSecond, ended, conflict, gone, after, afterFirst, afterSecond, step}
-use Rattle.serial.specs.P12.{pipe, xDhcid, yDhcid, address1, xPipe, xRemoves, yAdds, oneAddress, xHost, heldByX, noNames}
+use Rattle.update.specs.Rules.{Host, with, withName, withoutName, withAddress, withoutAddress, newHost, heldBy, empty, requestA, requestB, removeAddress, deleteName, removeName}
+use Rattle.job.specs.Jobs.{beforeA, beforeB, beforeFirst, beforeSecond, ended, conflict, gone, after, afterFirst, afterSecond, step}
+use Rattle.serial.proofs.RequestLaws.{state}
+use Rattle.serial.specs.P12.{pipe, xDhcid, yDhcid, address1, xPipe, xRemoves, yAdds, alone, oneAddress, xHost, heldByX, noNames}
 
-abbrev pub state : rules.Zone → Stage → State
-state z s = record { zone = z; stage = s }
+-- ---- X's name with other addresses
+
+-- a host is X's with its addresses of family 4, where it has no others
+host-is : (h : Host) (s : Addresses) → h .owner ≡ some xDhcid → h .addresses four ≡ s → h .addresses six ≡ nothing → h ≡ xHost s
+unfolding xHost
+host-is h s o e g = λ i. record { owner = o i; addresses = fun-ext each i }
+  where
+    each : (f : Family) → h .addresses f ≡ xHost s .addresses f
+    each four = e
+    each six = g
+
+module _ (a : Octets) (s : Addresses) where
+  pub host-less : withoutAddress (xPipe a) (xHost s) ≡ xHost (excluding a s)
+  host-less = host-is (withoutAddress (xPipe a) (xHost s)) (excluding a s) (unfold xHost withoutAddress with in refl) (unfold xHost withoutAddress with in refl) (unfold xHost withoutAddress with in refl)
+
+  pub host-more : withAddress (xPipe a) (xHost s) ≡ xHost (including a s)
+  host-more = host-is (withAddress (xPipe a) (xHost s)) (including a s) (unfold xHost withAddress with in refl) (unfold xHost withAddress with in refl) (unfold xHost withAddress with in refl)
+
+pub host-new : (a : Octets) → newHost (xPipe a) ≡ xHost (alone a)
+host-new a = host-is (newHost (xPipe a)) (alone a) (unfold newHost withAddress with in refl) (unfold newHost withAddress with including alone member in refl) (unfold newHost withAddress with in refl)
+
+-- pipe with these addresses written over pipe with those, and where there is no name
+pub held-over : (s t : Addresses) → withName pipe (xHost t) (heldByX s) ≡ heldByX t
+unfolding heldByX withName pipe key sameOctets
+held-over s t = λ i. record { size = 1; at = fun-ext (λ k. go (sameOctets pipe k)) i }
+  where
+    go : (b : Bool) → cond b (some (xHost t)) (cond b (some (xHost s)) none) ≡ cond b (some (xHost t)) none
+    go true = refl
+    go false = refl
+
+pub held-new : (t : Addresses) → withName pipe (xHost t) noNames ≡ heldByX t
+unfolding heldByX withName pipe key sameOctets
+held-new t = refl
+
+-- one address, taken away
+pub none-left : (a : Octets) → excluding a (alone a) ≡ nothing
+unfolding excluding alone member
+none-left a = λ i. record { count = count i; has = fun-ext (λ b. go (sameOctets a b)) i }
+  where
+    count : cond (sameOctets a a || false) (1 - 1) 1 ≡ 0
+    count = rw (same-self a) refl
+
+    go : (b : Bool) → (not b && (b || false)) ≡ false
+    go true = refl
+    go false = refl
+
+-- ---- the steps
 
 -- X's first request takes its one address: the host that is left is X's without any.
 pub x-takes : step xRemoves (heldByX oneAddress) beforeFirst ≡ state (heldByX nothing) beforeSecond
-unfolding heldByX xHost oneAddress xRemoves pipe xDhcid step removeAddress afterFirst heldBy sameOctets key withoutAddress with excluding withName member
-x-takes = λ i. record { zone = record { size = 1; at = fun-ext at i }; stage = beforeSecond }
+x-takes = found ∙ ap (λ (h : Host). state (withName pipe h (heldByX oneAddress)) beforeSecond) (host-less address1 oneAddress ∙ ap xHost (none-left address1)) ∙ ap (λ (z : rules.Zone). state z beforeSecond) (held-over oneAddress nothing)
   where
-    none-left : (b : Bool) → (not b && (b || false)) ≡ false
-    none-left true = refl
-    none-left false = refl
-
-    each : (f : Family) → withoutAddress xPipe (xHost oneAddress) .addresses f ≡ xHost nothing .addresses f
-    each four = λ i. record { count = 0; has = fun-ext (λ a. none-left (sameOctets address1 a)) i }
-    each six = refl
-
-    host : withoutAddress xPipe (xHost oneAddress) ≡ xHost nothing
-    host = λ i. record { owner = some xDhcid; addresses = fun-ext each i }
-
-    go : (b : Bool) → cond b (some (withoutAddress xPipe (xHost oneAddress))) (cond b (some (xHost oneAddress)) none) ≡ cond b (some (xHost nothing)) none
-    go true = ap some host
-    go false = refl
-
-    at : (k : Octets) → step xRemoves (heldByX oneAddress) beforeFirst .zone .at k ≡ heldByX nothing .at k
-    at k = go (sameOctets pipe k)
+    found : step xRemoves (heldByX oneAddress) beforeFirst ≡ state (withName pipe (withoutAddress (xPipe address1) (xHost oneAddress)) (heldByX oneAddress)) beforeSecond
+    found = unfold heldByX xHost xRemoves pipe xDhcid step removeAddress afterFirst heldBy sameOctets key in refl
 
 -- Y's request A finds the name, its request B another owner, whatever number was sent before.
 pub y-asks : (n : ℕ) → step yAdds (heldByX nothing) (beforeA n) ≡ state (heldByX nothing) (beforeB (suc n))

@@ -1,8 +1,10 @@
--- The three zones of P12 as structs: pipe held by X with its address, the same without one, and no name. Assumes nothing.
+-- The three zones of P12 as structs: pipe held by X with an address, the same without one, and no name. Assumes nothing.
 use mathlib.Core.Path.{_≡_, refl, fun-ext}
 use mathlib.Core.Bool.{true, cond}
 use mathlib.Core.List.{_++_, map}
 use mathlib.Core.Option.{none, some}
+use Prim.Native.Nat.{ℕ}
+use lib.Dec.{ltb}
 use lib.ListN.{replicate}
 use Rattle.octets.specs.Compare.{sameOctets}
 use Rattle.octets.specs.Count.{Octets, member, distinct}
@@ -18,7 +20,8 @@ use Rattle.update.specs.Meaning.{hostOf, zoneOf}
 use Rattle.update.specs.Spelling.{spellingOf}
 use Rattle.request.proofs.PlaceLaws.{spellsAs}
 use Rattle.lentzone.specs.Encode.{Wide, SizedEntry}
-use Rattle.serial.specs.P12.{pipe, xDhcid, address1, oneAddress, xHost, heldByX, noNames, areOctets, ZoneValue}
+use Rattle.serial.specs.Values.{areOctets, ZoneValue}
+use Rattle.serial.specs.P12.{pipe, xDhcid, net10, alone, oneAddress, xHost, heldByX, noNames}
 use Rattle.serial.proofs.OneName.{no4, no6, one4, free, free-sized, free-octets, others, oneName, with-free, value-of, formed-held, zone-held, formed-none, zone-none}
 
 unfoldable pub pipeName : Name
@@ -59,9 +62,12 @@ module _ (s : Set4) where
   held-zone : zoneOf (oneName (heldWith s)) ≡ heldByX (setOf (list4 s))
   held-zone = zone-held (heldWith s) held-used held-key (setOf (list4 s)) held-host
 
--- The three zones: X's name with its address, without one, and no name.
+-- The zones: X's name with 10.0.0.n alone, with the address that P12 has, without one, and no name.
+abbrev pub fullOf : ℕ → Zone
+fullOf n = oneName (heldWith (one4 (net10 n)))
+
 abbrev pub full : Zone
-full = oneName (heldWith (one4 address1))
+full = fullOf 1
 
 abbrev pub bare : Zone
 bare = oneName (heldWith no4)
@@ -69,8 +75,12 @@ bare = oneName (heldWith no4)
 abbrev pub clear : Zone
 clear = oneName free
 
+pub full-of-value : (n : ℕ) → ltb n 256 ≡ true → ZoneValue (fullOf n)
+full-of-value n h =
+    value-of (heldWith (one4 (net10 n))) (held-sized (one4 (net10 n)) (refl, (refl, (refl, (refl, tt))))) (unfold heldWith pipeName pipe xDhcid areOctets in rw h refl)
+
 pub full-value : ZoneValue full
-full-value = value-of (heldWith (one4 address1)) (held-sized (one4 address1) (refl, (refl, (refl, (refl, tt))))) (unfold heldWith pipeName pipe xDhcid areOctets in refl)
+full-value = full-of-value 1 refl
 
 pub bare-value : ZoneValue bare
 bare-value = value-of (heldWith no4) (held-sized no4 (refl, (refl, (refl, (refl, tt))))) (unfold heldWith pipeName pipe xDhcid areOctets in refl)
@@ -78,8 +88,12 @@ bare-value = value-of (heldWith no4) (held-sized no4 (refl, (refl, (refl, (refl,
 pub clear-value : ZoneValue clear
 clear-value = value-of free free-sized free-octets
 
+pub full-of-formed : (n : ℕ) → formed (fullOf n) ≡ true
+full-of-formed n =
+    formed-held (heldWith (one4 (net10 n))) (held-used (one4 (net10 n))) (held-key (one4 (net10 n))) (held-order (one4 (net10 n)) (unfold sound distinct member in refl))
+
 pub full-formed : formed full ≡ true
-full-formed = formed-held (heldWith (one4 address1)) (held-used (one4 address1)) (held-key (one4 address1)) (held-order (one4 address1) (unfold sound distinct member in refl))
+full-formed = full-of-formed 1
 
 pub bare-formed : formed bare ≡ true
 bare-formed = formed-held (heldWith no4) (held-used no4) (held-key no4) (held-order no4 (unfold sound distinct in refl))
@@ -87,9 +101,12 @@ bare-formed = formed-held (heldWith no4) (held-used no4) (held-key no4) (held-or
 pub clear-formed : formed clear ≡ true
 clear-formed = formed-none free (unfold free used in refl)
 
+pub full-of-zone : (n : ℕ) → zoneOf (fullOf n) ≡ heldByX (alone (net10 n))
+unfolding alone
+full-of-zone n = held-zone (one4 (net10 n))
+
 pub full-zone : zoneOf full ≡ heldByX oneAddress
-unfolding oneAddress
-full-zone = held-zone (one4 address1)
+full-zone = full-of-zone 1
 
 pub bare-zone : zoneOf bare ≡ heldByX nothing
 unfolding member

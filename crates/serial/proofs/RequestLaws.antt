@@ -102,16 +102,33 @@ pub whole-sends : (j : Arguments) (z : Zone) (e : End) → whole j z .stage ≡ 
 unfolding whole
 whole-sends j z e p = sends (sends (subst (λ (s : Stage). Sends j (whole j z .zone) s (whole j z .zone) e) (sym p) hasEnded))
 
+-- it has no other end
+sends-on : (j : Arguments) {z : Zone} (s : Stage) {y : Zone} {d : End} → Sends j z s y d → Sends j (step j z s .zone) (step j z s .stage) y d
+unfolding step
+sends-on j s hasEnded = hasEnded
+sends-on j s (sends h) = h
+
+sends-ended : (j : Arguments) {z : Zone} (s : Stage) {y : Zone} {d : End} (e : End) → Sends j z s y d → s ≡ ended e → (z ≡ y) × (e ≡ d)
+sends-ended j s e (hasEnded {e = d}) p = (refl, (let q : e ≡ d = cc in q))
+sends-ended j s e (sends {z = z} h) p =
+    let m = sends-ended j (step j z s .stage) e h (ap (λ (t : Stage). step j z t .stage) p ∙ (unfold step in refl)) in
+    let u : z ≡ step j z (ended e) .zone = unfold step in refl in
+    (u ∙ ap (λ (t : Stage). step j z t .zone) (sym p) ∙ m .0, m .1)
+
+pub whole-only : (j : Arguments) (z y : Zone) (d e : End) → whole j z .stage ≡ ended e → Sends j z (fresh j) y d → (whole j z .zone ≡ y) × (e ≡ d)
+unfolding whole
+whole-only j z y d e p m = sends-ended j (whole j z .stage) e (sends-on j (step j z (fresh j) .stage) (sends-on j (fresh j) m)) p
+
 step-ended : (j : Arguments) (z : Zone) (e : End) → step j z (ended e) ≡ state z (ended e)
 unfolding step
 step-ended j z e = refl
 
 module _ (j : Arguments) (z : Zone) where
-  whole-one : (s : Stage) (y : Zone) (e : End) → fresh j ≡ s → step j z s ≡ state y (ended e) → whole j z ≡ state y (ended e)
+  pub whole-one : (s : Stage) (y : Zone) (e : End) → fresh j ≡ s → step j z s ≡ state y (ended e) → whole j z ≡ state y (ended e)
   unfolding whole
   whole-one s y e f h = rw (f, h) (step-ended j y e)
 
-  whole-two : (s : Stage) (x y : Zone) (t : Stage) (e : End) → fresh j ≡ s → step j z s ≡ state x t → step j x t ≡ state y (ended e) → whole j z ≡ state y (ended e)
+  pub whole-two : (s : Stage) (x y : Zone) (t : Stage) (e : End) → fresh j ≡ s → step j z s ≡ state x t → step j x t ≡ state y (ended e) → whole j z ≡ state y (ended e)
   unfolding whole
   whole-two s x y t e f h g = rw (f, h) g
 

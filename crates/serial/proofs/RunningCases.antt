@@ -1,8 +1,9 @@
 -- P12 of the calls that run, and of those on octets: whatever they return that meets their promises, the list of steps is one that demand 3
 -- speaks of. Assumes nothing.
 use mathlib.Core.Path.{_≡_, refl, sym, _∙_, ap, subst}
-use mathlib.Core.Bool.{true}
+use mathlib.Core.Bool.{true, true≢false}
 use mathlib.Core.List.{List, [], _∷_}
+use mathlib.Core.Logic.{inl, inr}
 use Prim.Native.Nat.{ℕ}
 use lib.ListN.{length}
 use Rattle.zone.specs.declared.Zone.{Zone}
@@ -18,17 +19,18 @@ use Rattle.step.specs.declared.lent.StepAnswer.{StepAnswer}
 use Rattle.step.specs.Promise.{StepPromise}
 use Rattle.step.specs.Lent.{StepPromiseIn}
 use Rattle.serial.specs.P12.{xRemoves, yAdds, oneAddress, heldByX, P12, Explained}
-use Rattle.serial.specs.Steps.{Calls, Promises, noJob, oneMore, start, stepped}
+use Rattle.serial.specs.Steps.{Calls, Promises, noJob, oneMore, start, stepped, ownSteps, HasBegun, AtFirst}
 use Rattle.serial.specs.Order.{Explains}
 use Rattle.serial.specs.Demand.{HeldHaveAddress, Story}
 use Rattle.serial.specs.Running.{NewCall, running}
 use Rattle.lentzone.specs.Encode.{Holds}
 use Rattle.serial.specs.OnOctets.{lent, byValue, onOctets}
-use Rattle.serial.proofs.Demand.{demand3}
+use Rattle.serial.proofs.RequestLaws.{placed}
+use Rattle.serial.proofs.Demand.{fresh-unplaced, demand3}
 use Rattle.serial.proofs.InTime.{Taken}
 use Rattle.serial.proofs.Running.{Ok, kept-promises, taken}
 use Rattle.serial.proofs.OnOctets.{octets-promises, octets-taken}
-use Rattle.serial.proofs.Cases.{stepOf, newJob, r₁, r₂, r₃, r₄, p12-ends, p12-held, p12-order}
+use Rattle.serial.proofs.Cases.{stepOf, newJob, r₁, r₂, r₃, r₄, p12-ends, p12-held, p12-order, p12-no-other, p12-began}
 
 -- ---- of any calls that keep the promises
 
@@ -101,14 +103,29 @@ module _ (C : Calls) (P : Promises C) where
         subst (λ (u : rules.Zone). Explains (xRemoves ∷ yAdds ∷ []) (gone ∷ conflict 2 ∷ []) u (C .zoneOf (C .zone (c .s₄))) (1 ∷ 0 ∷ [])) (sym (c .held))
         (subst (λ (u : rules.Zone). Explains (xRemoves ∷ yAdds ∷ []) (gone ∷ conflict 2 ∷ []) x₀ u (1 ∷ 0 ∷ [])) (sym (t₄ .zoneIs)) p12-order)
 
+    no-other : (o : List ℕ) → Explains (xRemoves ∷ yAdds ∷ []) (gone ∷ conflict 2 ∷ []) (C .zoneOf (c .z)) (C .zoneOf (C .zone (c .s₄))) o → o ≡ 1 ∷ 0 ∷ []
+    no-other o x =
+        p12-no-other (C .zoneOf (C .zone (c .s₄))) o
+        (subst (λ (u : rules.Zone). Explains (xRemoves ∷ yAdds ∷ []) (gone ∷ conflict 2 ∷ []) u (C .zoneOf (C .zone (c .s₄))) o) (c .held) x)
+
+    x-began : HasBegun C 0 (C .job (c .s₁) ∷ c .ky ∷ [])
+    x-began = record {
+      job = C .job (c .s₁);
+      its = refl;
+      begun = λ e. true≢false
+          (sym (ap (λ (m : jobs.Job). placed (m .stage)) (t₁ .jobIs) ∙ ap placed p12-began) ∙ ap placed e ∙ fresh-unplaced (C .jobOf (C .job (c .s₁)) .arguments));
+    }
+
     pub p12-explained : Explained C c
-    unfolding p12-story
+    unfolding p12-story ownSteps AtFirst
     p12-explained = record {
       story = p12-story;
       zones = (refl, refl);
       jobs = (refl, refl);
       serial = demand3 C P p12-story (subst HeldHaveAddress (sym (c .held)) p12-held);
       yThenX = y-then-x;
+      noOther = no-other;
+      xBegan = inl (inl (inr (refl, refl, x-began)));
     }
 
 -- ---- of the calls that run

@@ -3,27 +3,27 @@
 use mathlib.Core.Path.{_≡_, refl, sym, _∙_, ap, subst}
 use mathlib.Core.Bool.{true, cond, true≢false}
 use mathlib.Core.List.{List, [], _∷_}
+use mathlib.Core.Logic.{_⊎_, inl, inr}
 use mathlib.Core.Option.{Option, none, some}
-use Prim.Native.Nat.{ℕ, zero, suc}
-use native.Mathlib.Omega.{arith}
+use Prim.Native.Nat.{ℕ}
 use Rattle.octets.specs.Compare.{sameOctets}
 use Rattle.octets.specs.Count.{Octets, member}
 use Rattle.dname.specs.Name.{key}
 use Rattle.addresses.specs.Addresses.{including, excluding}
 use Rattle.update.specs.Rules.{Zone, there, with, heldBy, empty, newHost, requestA, left, fits, writeB, requestB, removeAddress, removeName, withName, withoutName, withAddress, withoutAddress, deleteName}
 use Rattle.update.specs.Spelling.{Spelling, kept, respelled}
-use Rattle.update.proofs.ZoneLaws.{some≢none}
 use Rattle.job.specs.Jobs as jobs
 use Rattle.job.specs.Jobs.{Arguments, End, done, gone, Stage, ended, fresh, after, afterFirst, afterSecond, step, Sends, hasEnded, sends}
 use Rattle.serial.specs.Steps.{going}
-use Rattle.serial.specs.Order.{times, InTurn, nobody, next, Explains}
+use Rattle.serial.specs.Order.{InTurn, nobody, next, Explains}
 use Rattle.serial.specs.Demand.{Story, Serializable}
-use Rattle.serial.specs.P12.{xDhcid, oneAddress, xHost, heldAt}
+use Rattle.serial.specs.P12.{xDhcid, alone, oneAddress, xHost, heldAt}
 use Rattle.serial.specs.Spelling.{spelledBySteps, spelledByJob, spelledInTurn, OBOE, oboe, xRemovesCapitals, xAddsSmall, SpellsOtherwise}
 use Rattle.serial.proofs.KeepsOctets.{respelled-there, respelled-idle}
 use Rattle.serial.proofs.Cases.{byRule, by-rule, form-one, r₃, r₄, between}
 use Rattle.serial.proofs.Demand.{stronger}
-use Rattle.serial.proofs.RemovesDiffer.{more, two}
+use Rattle.serial.proofs.RequestLaws.{whole, whole-only}
+use Rattle.serial.proofs.TwoJobs.{of-two}
 
 -- ---- what a job that has ended leaves spelled
 
@@ -38,6 +38,11 @@ idle-spelled j s e (sends {z = z} h) p sp k t =
     ∙ ap (λ (y : Zone). respelled (j .update .name) y sp k) w ∙ respelled-idle (j .update .name) z sp k t
 
 -- ---- a job that ends with its first request, or with its second
+
+-- after its first request
+unfoldable more : (j : Arguments) {z : Zone} (s : Stage) {y : Zone} {d : End} → Sends j z s y d → going s ≡ true → Sends j (step j z s .zone) (step j z s .stage) y d
+more j s hasEnded g = absurd (true≢false (sym g))
+more j s (sends h) g = h
 
 first-spelled : (j : Arguments) {z : Zone} (s : Stage) {y : Zone} {d : End} (m : Sends j z s y d) (g : going s ≡ true) (sp : Spelling)
     → spelledByJob m sp ≡ spelledByJob (more j s m g) (respelled (j .update .name) (step j z s .zone) sp)
@@ -83,14 +88,14 @@ abbrev last : Zone
 last = r₄ z₀ removes adds .zone
 
 the-ends : (r₄ z₀ removes adds .job .stage ≡ ended jobs.kept) × (r₃ z₀ removes adds .job .stage ≡ ended (done 2))
-unfolding xRemovesCapitals xAddsSmall OBOE oboe xHost xDhcid oneAddress step fresh requestA requestB removeAddress deleteName removeName writeB fits left after afterFirst afterSecond heldBy sameOctets key newHost withAddress withoutAddress with including excluding withName withoutName empty member
+unfolding xRemovesCapitals xAddsSmall OBOE oboe xHost xDhcid alone step fresh requestA requestB removeAddress deleteName removeName writeB fits left after afterFirst afterSecond heldBy sameOctets key newHost withAddress withoutAddress with including excluding withName withoutName empty member
 the-ends = (refl, refl)
 
 unfoldable the-list : Story byRule
 the-list = between z₀ removes adds (form-one oboe) jobs.kept (done 2) (the-ends .0) (the-ends .1)
 
 stands-last : there (last .at (key oboe)) ≡ true
-unfolding xRemovesCapitals xAddsSmall OBOE oboe xHost xDhcid oneAddress step fresh requestA requestB removeAddress deleteName removeName writeB fits left after afterFirst afterSecond heldBy sameOctets key newHost withAddress withoutAddress with including excluding withName withoutName empty member
+unfolding xRemovesCapitals xAddsSmall OBOE oboe xHost xDhcid alone step fresh requestA requestB removeAddress deleteName removeName writeB fits left after afterFirst afterSecond heldBy sameOctets key newHost withAddress withoutAddress with including excluding withName withoutName empty member
 stands-last = refl
 
 unfoldable spelled-first : Spelling
@@ -99,92 +104,65 @@ spelled-first k = cond (sameOctets oboe k) (some OBOE) none
 -- ---- the remove first: it deletes the name, and the add writes its own
 
 removed : Zone
-removed = step removes (step removes z₀ Stage.beforeFirst .zone) (step removes z₀ Stage.beforeFirst .stage) .zone
+removed = whole removes z₀ .zone
 
 remove-spelled : (y : Zone) (d : End) (m : Sends removes z₀ (fresh removes) y d) (sp : Spelling) → (spelledByJob m sp (key oboe) ≡ none) × (removed ≡ y)
-unfolding respelled removed xRemovesCapitals xAddsSmall OBOE oboe xHost xDhcid oneAddress step fresh requestA requestB removeAddress deleteName removeName writeB fits left after afterFirst afterSecond heldBy sameOctets key newHost withAddress withoutAddress with including excluding withName withoutName empty member
+unfolding respelled removed whole xRemovesCapitals xAddsSmall OBOE oboe xHost xDhcid alone step fresh requestA requestB removeAddress deleteName removeName writeB fits left after afterFirst afterSecond heldBy sameOctets key newHost withAddress withoutAddress with including excluding withName withoutName empty member
 remove-spelled y d m sp =
-    (two-spelled removes (key oboe) z₀ Stage.beforeFirst refl sp y d gone m refl refl, two removes z₀ y d gone Stage.beforeFirst refl refl refl refl m .0)
+    (two-spelled removes (key oboe) z₀ Stage.beforeFirst refl sp y d gone m refl refl, whole-only removes z₀ y d gone refl m .0)
 
 add-spelled : (w : Zone) (d : End) (m : Sends adds removed (fresh adds) w d) (sp : Spelling) → sp (key oboe) ≡ none → spelledByJob m sp (key oboe) ≡ some oboe
-unfolding respelled removed xRemovesCapitals xAddsSmall OBOE oboe xHost xDhcid oneAddress step fresh requestA requestB removeAddress deleteName removeName writeB fits left after afterFirst afterSecond heldBy sameOctets key newHost withAddress withoutAddress with including excluding withName withoutName empty member
+unfolding respelled removed whole xRemovesCapitals xAddsSmall OBOE oboe xHost xDhcid alone step fresh requestA requestB removeAddress deleteName removeName writeB fits left after afterFirst afterSecond heldBy sameOctets key newHost withAddress withoutAddress with including excluding withName withoutName empty member
 add-spelled w d m sp e = one-spelled adds (key oboe) removed (Stage.beforeA 0) refl sp w d (done 1) m refl ∙ ap (λ (o : Option Octets). some (kept oboe o)) e
 
 -- ---- the add first: then the remove deletes the name
 
 added : Zone
-added = step adds (step adds z₀ (Stage.beforeA 0) .zone) (step adds z₀ (Stage.beforeA 0) .stage) .zone
+added = whole adds z₀ .zone
 
 add-first : (y : Zone) (d : End) → Sends adds z₀ (fresh adds) y d → added ≡ y
-unfolding added xRemovesCapitals xAddsSmall OBOE oboe xHost xDhcid oneAddress step fresh requestA requestB removeAddress deleteName removeName writeB fits left after afterFirst afterSecond heldBy sameOctets key newHost withAddress withoutAddress with including excluding withName withoutName empty member
-add-first y d m = two adds z₀ y d (done 2) (Stage.beforeA 0) refl refl refl refl m .0
+unfolding added whole xRemovesCapitals xAddsSmall OBOE oboe xHost xDhcid alone step fresh requestA requestB removeAddress deleteName removeName writeB fits left after afterFirst afterSecond heldBy sameOctets key newHost withAddress withoutAddress with including excluding withName withoutName empty member
+add-first y d m = whole-only adds z₀ y d (done 2) refl m .0
 
 remove-second : (w : Zone) (d : End) → Sends removes added (fresh removes) w d → w .at (key oboe) ≡ none
-unfolding added xRemovesCapitals xAddsSmall OBOE oboe xHost xDhcid oneAddress step fresh requestA requestB removeAddress deleteName removeName writeB fits left after afterFirst afterSecond heldBy sameOctets key newHost withAddress withoutAddress with including excluding withName withoutName empty member
-remove-second w d m = ap (λ (x : Zone). x .at (key oboe)) (sym (two removes added w d gone Stage.beforeFirst refl refl refl refl m .0))
+unfolding added whole xRemovesCapitals xAddsSmall OBOE oboe xHost xDhcid alone step fresh requestA requestB removeAddress deleteName removeName writeB fits left after afterFirst afterSecond heldBy sameOctets key newHost withAddress withoutAddress with including excluding withName withoutName empty member
+remove-second w d m = ap (λ (x : Zone). x .at (key oboe)) (sym (whole-only removes added w d gone refl m .0))
 
 -- ---- every order that explains the list
 
-nobody-left : {x z : Zone} {o : List ℕ} (l : InTurn both said x o z) → times 0 o ≡ 0 → times 1 o ≡ 0 → (o ≡ []) × (x ≡ z) × ((sp : Spelling) → spelledInTurn l sp ≡ sp)
-unfolding times spelledInTurn
-nobody-left nobody h g = (refl, refl, λ sp. refl)
-nobody-left (next zero j e d a b m v t) h g = absurd (omega arith)
-nobody-left (next (suc zero) j e d a b m v t) h g = absurd (omega arith)
-nobody-left (next (suc (suc i)) j e d a b m v t) h g = absurd (some≢none (sym a))
-
--- the add alone, from where the remove left the zone
-add-left : {x z : Zone} {o : List ℕ} (l : InTurn both said x o z) → times 0 o ≡ 0 → times 1 o ≡ 1 → removed ≡ x → (sp : Spelling) → sp (key oboe) ≡ none
-    → (o ≡ 1 ∷ []) × (spelledInTurn l sp (key oboe) ≡ some oboe)
-unfolding times spelledInTurn
-add-left nobody h g p sp n = absurd (omega arith)
-add-left (next zero j e d a b m v t) h g p sp n = absurd (omega arith)
-add-left (next {x = x} {y = y} (suc zero) j e d a b m v t) h g p sp n =
-    let q : adds ≡ j = cc in
-    let r = nobody-left t (omega arith) (omega arith) in
-    (ap (λ (o : List ℕ). 1 ∷ o) (r .0), ap (λ (s : Spelling). s (key oboe)) (r .2 (spelledByJob m sp)) ∙ spelled q p m)
+remove-then-add : {z : Zone} (t : InTurn both said z₀ (0 ∷ 1 ∷ []) z) (sp : Spelling) → spelledInTurn t sp (key oboe) ≡ some oboe
+unfolding spelledInTurn
+remove-then-add (next {y = y} i j e d p q m v (next {y = x} i′ j′ e′ d′ p′ q′ m′ v′ nobody)) sp =
+    let r = first (let s : removes ≡ j = cc in s) m in
+    second (let s : adds ≡ j′ = cc in s) (r .1) m′ (spelledByJob m sp) (r .0)
   where
-    spelled : adds ≡ j → removed ≡ x → (m : Sends j x (fresh j) y d) → spelledByJob m sp (key oboe) ≡ some oboe
-    spelled q p =
-        subst (λ (u : Arguments). (m : Sends u x (fresh u) y d) → spelledByJob m sp (key oboe) ≡ some oboe) q
-        (subst (λ (u : Zone). (m : Sends adds u (fresh adds) y d) → spelledByJob m sp (key oboe) ≡ some oboe) p (λ m. add-spelled y d m sp n))
-add-left (next (suc (suc i)) j e d a b m v t) h g p sp n = absurd (some≢none (sym a))
+    first : removes ≡ j → (m : Sends j z₀ (fresh j) y d) → (spelledByJob m sp (key oboe) ≡ none) × (removed ≡ y)
+    first s = subst (λ (u : Arguments). (m : Sends u z₀ (fresh u) y d) → (spelledByJob m sp (key oboe) ≡ none) × (removed ≡ y)) s (λ m. remove-spelled y d m sp)
 
--- the remove alone, from where the add left the zone
-remove-left : {x z : Zone} {o : List ℕ} → InTurn both said x o z → times 0 o ≡ 1 → times 1 o ≡ 0 → added ≡ x → z .at (key oboe) ≡ none
-unfolding times
-remove-left nobody h g p = absurd (omega arith)
-remove-left (next {x = x} {y = y} zero j e d a b m v t) h g p =
-    let q : removes ≡ j = cc in
-    let n : Sends removes added (fresh removes) y d = subst (λ (u : Arguments). Sends u added (fresh u) y d) (sym q) (subst (λ (u : Zone). Sends j u (fresh j) y d) (sym p) m) in
-    ap (λ (u : Zone). u .at (key oboe)) (sym (nobody-left t (omega arith) (omega arith) .1)) ∙ remove-second y d n
-remove-left (next (suc zero) j e d a b m v t) h g p = absurd (omega arith)
-remove-left (next (suc (suc i)) j e d a b m v t) h g p = absurd (some≢none (sym a))
+    second : adds ≡ j′ → removed ≡ y → (m : Sends j′ y (fresh j′) x d′) (sp : Spelling) → sp (key oboe) ≡ none → spelledByJob m sp (key oboe) ≡ some oboe
+    second s w =
+        subst (λ (u : Arguments). (m : Sends u y (fresh u) x d′) (sp : Spelling) → sp (key oboe) ≡ none → spelledByJob m sp (key oboe) ≡ some oboe) s
+        (subst (λ (u : Zone). (m : Sends adds u (fresh adds) x d′) (sp : Spelling) → sp (key oboe) ≡ none → spelledByJob m sp (key oboe) ≡ some oboe) w (λ m sp n. add-spelled x d′ m sp n))
 
-only : {z : Zone} {o : List ℕ} (l : InTurn both said z₀ o z) → there (z .at (key oboe)) ≡ true → times 0 o ≡ 1 → times 1 o ≡ 1 → (sp : Spelling)
-    → (o ≡ 0 ∷ 1 ∷ []) × (spelledInTurn l sp (key oboe) ≡ some oboe)
-unfolding times spelledInTurn
-only nobody w h g sp = absurd (omega arith)
-only (next {y = y} zero j e d a b m v t) w h g sp =
-    let q : removes ≡ j = cc in
-    let r = spelled q m in
-    let s = add-left t (omega arith) (omega arith) (r .1) (spelledByJob m sp) (r .0) in
-    (ap (λ (o : List ℕ). 0 ∷ o) (s .0), s .1)
-  where
-    spelled : removes ≡ j → (m : Sends j z₀ (fresh j) y d) → (spelledByJob m sp (key oboe) ≡ none) × (removed ≡ y)
-    spelled q = subst (λ (u : Arguments). (m : Sends u z₀ (fresh u) y d) → (spelledByJob m sp (key oboe) ≡ none) × (removed ≡ y)) q (λ m. remove-spelled y d m sp)
-only {z} (next {y = y} {o = o} (suc zero) j e d a b m v t) w h g sp =
-    let q : adds ≡ j = cc in
-    let n : Sends adds z₀ (fresh adds) y d = subst (λ (u : Arguments). Sends u z₀ (fresh u) y d) (sym q) m in
-    absurd (true≢false (sym w ∙ ap there (remove-left t (omega arith) (omega arith) (add-first y d n))))
-only (next (suc (suc i)) j e d a b m v t) w h g sp = absurd (some≢none (sym a))
+add-then-remove : {z : Zone} → InTurn both said z₀ (1 ∷ 0 ∷ []) z → there (z .at (key oboe)) ≡ true → ⊥
+add-then-remove (next {y = y} i j e d p q m v (next {y = x} i′ j′ e′ d′ p′ q′ m′ v′ nobody)) w =
+    let s : adds ≡ j = cc in
+    let s′ : removes ≡ j′ = cc in
+    let n : Sends adds z₀ (fresh adds) y d = subst (λ (u : Arguments). Sends u z₀ (fresh u) y d) (sym s) m in
+    let n′ : Sends removes added (fresh removes) x d′ = subst (λ (u : Zone). Sends removes u (fresh removes) x d′) (sym (add-first y d n)) (subst (λ (u : Arguments). Sends u y (fresh u) x d′) (sym s′) m′) in
+    true≢false (sym w ∙ ap there (remove-second x d′ n′))
 
 by-order : (o : List ℕ) (e : Explains both said z₀ last o) (sp : Spelling) → (o ≡ 0 ∷ 1 ∷ []) × (spelledInTurn (e .inTurn) sp (key oboe) ≡ some oboe)
-by-order o e sp = only (e .inTurn) stands-last (e .once 0 jobs.kept refl refl) (e .once 1 (done 2) refl refl) sp
+by-order o e sp = go (of-two removes adds jobs.kept (done 2) refl refl e) (e .inTurn)
+  where
+    go : (o ≡ 0 ∷ 1 ∷ []) ⊎ (o ≡ 1 ∷ 0 ∷ []) → (t : InTurn both said z₀ o last) → (o ≡ 0 ∷ 1 ∷ []) × (spelledInTurn t sp (key oboe) ≡ some oboe)
+    go (inl p) t = (p, subst (λ (u : List ℕ). (t : InTurn both said z₀ u last) → spelledInTurn t sp (key oboe) ≡ some oboe) (sym p) (λ t. remove-then-add t sp) t)
+    go (inr p) t = absurd (add-then-remove (subst (λ (u : List ℕ). InTurn both said z₀ u last) p t) stands-last)
 
 -- ---- the claim
 
 by-list : spelledBySteps byRule (the-list .steps) spelled-first (key oboe) ≡ some OBOE
-unfolding the-list between byRule spelledBySteps spelled-first respelled xRemovesCapitals xAddsSmall OBOE oboe xHost xDhcid oneAddress step fresh requestA requestB removeAddress deleteName removeName writeB fits left after afterFirst afterSecond heldBy sameOctets key newHost withAddress withoutAddress with including excluding withName withoutName empty member
+unfolding the-list between byRule spelledBySteps spelled-first respelled xRemovesCapitals xAddsSmall OBOE oboe xHost xDhcid alone step fresh requestA requestB removeAddress deleteName removeName writeB fits left after afterFirst afterSecond heldBy sameOctets key newHost withAddress withoutAddress with including excluding withName withoutName empty member
 by-list = refl
 
 held-first : spelled-first (key oboe) ≡ some OBOE

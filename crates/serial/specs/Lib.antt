@@ -6,7 +6,9 @@ pub mod Demand
 pub mod Running
 -- The calls on a zone that is kept as octets.
 pub mod OnOctets
--- P12, and that these calls can make it.
+-- Values that a program can hold; P12, and that these calls can make it; how much can be asked of the order.
+pub mod Values
 pub mod P12
+pub mod Limits
 -- How names are spelled after a list of steps.
 pub mod Spelling

@@ -1,25 +1,22 @@
 -- P12 as a list of steps, and the claim that the calls can make it. Document 01, "Proof cases".
 use mathlib.Core.Path.{_≡_}
-use mathlib.Core.Bool.{Bool, true, cond, _&&_}
-use mathlib.Core.List.{List, [], _∷_, _++_}
+use mathlib.Core.Bool.{cond}
+use mathlib.Core.List.{List, [], _∷_}
 use mathlib.Core.Option.{none, some}
 use Prim.Native.Nat.{ℕ}
-use lib.Dec.{ltb}
-use lib.ListN.{length, replicate}
+use lib.ListN.{replicate}
 use Rattle.octets.specs.Compare.{sameOctets}
 use Rattle.octets.specs.Count.{Octets, member}
 use Rattle.addresses.specs.Addresses.{four, six, Addresses, nothing}
-use Rattle.zone.specs.declared.Zone.{Zone}
 use Rattle.update.specs.Rules as rules
 use Rattle.update.specs.Rules.{Host, Update, keepOthers}
-use Rattle.lentzone.specs.Encode.{SizedEntries, octetsOf}
-use Rattle.job.specs.declared.job.Job.{Job}
 use Rattle.job.specs.Jobs.{add, remove, Arguments, conflict, gone, ended}
-use Rattle.serial.specs.Steps.{Calls}
+use Rattle.serial.specs.Steps.{Calls, HasBegun, AtFirst}
 use Rattle.serial.specs.Order.{Explains}
 use Rattle.serial.specs.Demand.{Story, Serializable}
 use Rattle.serial.specs.Running.{running}
 use Rattle.serial.specs.OnOctets.{onOctets}
+use Rattle.serial.specs.Values.{ZoneValue, LentValue, JobValue}
 
 -- ---- what is asked
 
@@ -33,20 +30,28 @@ xDhcid = replicate 35 1
 unfoldable pub yDhcid : Octets
 yDhcid = replicate 35 2
 
-abbrev pub address1 : Octets
-address1 = 10 ∷ 0 ∷ 0 ∷ 1 ∷ []
+-- 10.0.0.n, and the one that X has.
+abbrev pub net10 : ℕ → Octets
+net10 n = 10 ∷ 0 ∷ 0 ∷ n ∷ []
 
-abbrev pub xPipe : Update
-xPipe = record { name = pipe; dhcid = xDhcid; family = four; address = address1 }
+abbrev pub address1 : Octets
+address1 = net10 1
+
+abbrev pub xPipe : Octets → Update
+xPipe a = record { name = pipe; dhcid = xDhcid; family = four; address = a }
 
 unfoldable pub xRemoves : Arguments
-xRemoves = record { kind = remove; update = xPipe; policy = keepOthers }
+xRemoves = record { kind = remove; update = xPipe address1; policy = keepOthers }
 
 unfoldable pub yAdds : Arguments
-yAdds = record { kind = add; update = record { name = pipe; dhcid = yDhcid; family = four; address = 10 ∷ 0 ∷ 0 ∷ 2 ∷ [] }; policy = keepOthers }
+yAdds = record { kind = add; update = record { name = pipe; dhcid = yDhcid; family = four; address = net10 2 }; policy = keepOthers }
 
-unfoldable pub oneAddress : Addresses
-oneAddress = record { count = 1; has = λ a. member a (address1 ∷ []) }
+-- The set of one address, and X's.
+unfoldable pub alone : Octets → Addresses
+alone a = record { count = 1; has = λ b. member b (a ∷ []) }
+
+abbrev pub oneAddress : Addresses
+oneAddress = alone address1
 
 unfoldable pub xHost : Addresses → Host
 xHost s = record { owner = some xDhcid; addresses = λ f. elim f [ four ↦ s | six ↦ nothing ] }
@@ -81,39 +86,18 @@ pub record P12 (C : Calls) : Type 0 where
   pub y-second : C .Step (C .zone s₂) (C .job s₂) s₃
   pub x-second : C .Step (C .zone s₃) (C .job s₁) s₄
 
--- ---- values that a program can hold
-
--- Each number is an octet's.
-unfoldable pub areOctets : List ℕ → Bool
-areOctets [] = true
-areOctets (x ∷ l) = ltb x 256 && areOctets l
-
--- A zone's struct: 64 places, arrays of the lengths that the struct gives them, and octets in all its fields.
-pub record ZoneValue (z : Zone) : Type 0 where
-  pub sizes : SizedEntries 64 (z .entries)
-  pub octets : areOctets (octetsOf z) ≡ true
-
--- The octets of a lent zone.
-pub record LentValue (z : List ℕ) : Type 0 where
-  pub size : length z ≡ 23936
-  pub octets : areOctets z ≡ true
-
--- A job's struct.
-pub record JobValue (j : Job) : Type 0 where
-  pub name : length (j .name .octets) ≡ 255
-  pub dhcid : length (j .dhcid .octets) ≡ 35
-  pub address : length (j .address .octets) ≡ 16
-  pub octets : areOctets (j .stage ∷ j .count ∷ j .family ∷ j .policy ∷ j .name .len ∷ (j .name .octets ++ (j .dhcid .octets ++ j .address .octets))) ≡ true
-
 -- ---- the claim
 
--- Such steps are a list that demand 3 speaks of and holds of, and Y first and X after is an order that explains it.
+-- Such steps are a list that demand 3 speaks of and holds of, and Y first and X after is an order that explains it. No other does, though X sent
+-- its first request before Y: jobs can't be asked to stand in the order of their first requests.
 pub record Explained (C : Calls) (c : P12 C) : Type 0 where
   pub story : Story C
   pub zones : (story .firstZone ≡ c .z) × (story .lastZone ≡ C .zone (c .s₄))
   pub jobs : (story .firstJobs ≡ c .kx ∷ c .ky ∷ []) × (story .lastJobs ≡ C .job (c .s₄) ∷ C .job (c .s₃) ∷ [])
   pub serial : Serializable C story
   pub yThenX : Explains (xRemoves ∷ yAdds ∷ []) (gone ∷ conflict 2 ∷ []) (C .zoneOf (c .z)) (C .zoneOf (C .zone (c .s₄))) (1 ∷ 0 ∷ [])
+  pub noOther : (o : List ℕ) → Explains (xRemoves ∷ yAdds ∷ []) (gone ∷ conflict 2 ∷ []) (C .zoneOf (c .z)) (C .zoneOf (C .zone (c .s₄))) o → o ≡ 1 ∷ 0 ∷ []
+  pub xBegan : AtFirst C (HasBegun C 0) (story .steps) 1
 
 -- There are such steps, with zones and jobs that a program can hold. X's remove ends gone, Y's add in conflict after two requests, and the
 -- zone at the end has no name.

@@ -86,14 +86,25 @@ module _ (C : Calls) where
   ChangedNothing (stepped {z = z} l n k r g p q) i = ChangedNothing l i × (n ≡ i → C .zoneOf (C .zone r) ≡ C .zoneOf z)
   ChangedNothing (refused l y k r p q) i = ChangedNothing l i
 
-  -- A job has ended, as the jobs stand.
-  pub record HasEnded (ks : List (C .J)) (i : ℕ) : Type 0 where
+  -- ---- which of two jobs came first
+
+  -- As the jobs stand, a job has sent a request; it has ended.
+  pub record HasBegun (i : ℕ) (ks : List (C .J)) : Type 0 where
+    pub job : C .J
+    pub its : getElem? ks i ≡ some job
+    pub begun : ¬ (C .jobOf job .stage ≡ fresh (C .jobOf job .arguments))
+
+  pub record HasEnded (i : ℕ) (ks : List (C .J)) : Type 0 where
     pub job : C .J
     pub its : getElem? ks i ≡ some job
     pub over : going (C .jobOf job .stage) ≡ false
 
-  -- Job a ended before job b sent its first request: one of the steps is of b, which had sent none before it, and a had ended by then.
-  unfoldable pub EndedFirst : {z₀ z : C .Z} {ks₀ ks : List (C .J)} → Steps z₀ ks₀ z ks → ℕ → ℕ → Type 0
-  EndedFirst start a b = ⊥
-  EndedFirst (stepped {ks = ks} l n k r g p q) a b = EndedFirst l a b ⊎ ((n ≡ b) × (ownSteps l b ≡ 0) × HasEnded ks a)
-  EndedFirst (refused l y k r p q) a b = EndedFirst l a b
+  -- This held of the jobs when job b sent its first request: one of the steps is of b, which had sent none before it.
+  unfoldable pub AtFirst : (List (C .J) → Type 0) → {z₀ z : C .Z} {ks₀ ks : List (C .J)} → Steps z₀ ks₀ z ks → ℕ → Type 0
+  AtFirst P start b = ⊥
+  AtFirst P (stepped {ks = ks} l i k r g p q) b = AtFirst P l b ⊎ ((i ≡ b) × (ownSteps l b ≡ 0) × P ks)
+  AtFirst P (refused l y k r p q) b = AtFirst P l b
+
+  -- Job a ended before job b sent its first request.
+  abbrev pub EndedFirst : {z₀ z : C .Z} {ks₀ ks : List (C .J)} → Steps z₀ ks₀ z ks → ℕ → ℕ → Type 0
+  EndedFirst l a b = AtFirst (HasEnded a) l b

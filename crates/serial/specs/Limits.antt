@@ -1,0 +1,52 @@
+-- How much can be asked of the order: lists of steps that tell.
+use mathlib.Core.Path.{_≡_}
+use mathlib.Core.Bool.{true}
+use mathlib.Core.List.{List, [], _∷_}
+use Prim.Native.Nat.{ℕ}
+use Rattle.update.specs.Rules.{Zone, keepOthers}
+use Rattle.update.specs.Meaning.{zoneOf}
+use Rattle.job.specs.Jobs.{add, Arguments, End, done, gone, kept}
+use Rattle.serial.specs.Steps.{Calls, EndedFirst}
+use Rattle.serial.specs.Order.{sameAnswer, StandsOnce, InTurn, nobody, next, Explains}
+use Rattle.serial.specs.Demand.{HeldHaveAddress, OnOneName, Serializable, Story}
+use Rattle.serial.specs.Running.{running}
+use Rattle.serial.specs.Values.{Held}
+use Rattle.serial.specs.P12.{net10, xPipe, xRemoves}
+
+-- X adds 10.0.0.n.
+unfoldable pub xAdds : ℕ → Arguments
+xAdds n = record { kind = add; update = xPipe (net10 n); policy = keepOthers }
+
+-- ---- document 02, n), asks for more than demand 3
+
+-- X leaves and comes back, of the calls that run and with zones and jobs that a program can hold. X has pipe with 10.0.0.1; its remove of that
+-- sends both its requests, and then its add of 10.0.0.9 sends one. Two orders explain the list, for the add first and the remove after lead to
+-- the same zone, and the add is done. But the remove ended before the add sent its first request, so only one is as players saw it.
+pub record TurnsRound : Type 0 where
+  pub story : Story running
+  pub values : Held (story .steps)
+  pub held : HeldHaveAddress (zoneOf (story .firstZone))
+  pub jobs : story .arguments ≡ xRemoves ∷ xAdds 9 ∷ []
+  pub ends : story .ends ≡ gone ∷ done 1 ∷ []
+  pub oneName : OnOneName running story 0 1
+  pub endedFirst : EndedFirst running (story .steps) 0 1
+  pub seen : Explains (story .arguments) (story .ends) (zoneOf (story .firstZone)) (zoneOf (story .lastZone)) (0 ∷ 1 ∷ [])
+  pub turned : Explains (story .arguments) (story .ends) (zoneOf (story .firstZone)) (zoneOf (story .lastZone)) (1 ∷ 0 ∷ [])
+  pub onlySeen : (r : Serializable running story) → r .order ≡ 0 ∷ 1 ∷ []
+
+-- ---- the answers of removes can't be asked for
+
+-- In these turns every job gets the same answer as in the list, removes too.
+unfoldable pub RemovesAgree : {js : List Arguments} {ends : List End} {x z : Zone} {o : List ℕ} → InTurn js ends x o z → Type 0
+RemovesAgree nobody = Unit
+RemovesAgree (next i j e d p q m v t) = (sameAnswer d e ≡ true) × RemovesAgree t
+
+-- X holds pipe with one address. Its remove takes the first step, its add of the same address is done, and the remove finds an address: the name
+-- is kept. Whole, before the add or after it, the remove finds none, and the name is gone. So no turns of the two jobs give every job its
+-- answer, wherever they lead.
+pub record RemovesDiffer (C : Calls) : Type 0 where
+  pub story : Story C
+  pub jobs : story .arguments ≡ xRemoves ∷ xAdds 1 ∷ []
+  pub ends : story .ends ≡ kept ∷ done 2 ∷ []
+  pub none : (o : List ℕ) (z : Zone) (t : InTurn (story .arguments) (story .ends) (C .zoneOf (story .firstZone)) o z) → StandsOnce 0 o → StandsOnce 1 o
+      → RemovesAgree t → ⊥
