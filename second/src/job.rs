@@ -2,7 +2,9 @@
 //!
 //! A job sends one request a step and keeps in its stage what it sends next
 //! or how it ended. Refusals keep the order of "Refusal numbers".
-//! [`serial_order`] looks for the order of whole jobs that demand 3 promises.
+//! [`serial_order`] looks for the order of whole jobs that demand 3 promises,
+//! [`serial_order_keeping`] for one in which some jobs stand before others
+//! (document 02, n).
 
 use std::collections::{BTreeMap, HashSet};
 
@@ -170,22 +172,27 @@ pub fn run_whole(zone: &mut Zone, job: &mut Job) -> Result<(), u8> {
 /// `jobs` are fresh, at most 64; `answers` has the stage each one ended with,
 /// read for adds only. Adds that found no room or gave up are left out.
 pub fn serial_order(start: &Zone, jobs: &[Job], end: &Zone, answers: &[u8]) -> Option<Vec<usize>> {
-    assert!(jobs.len() <= 64 && jobs.len() == answers.len());
-    let left_out = |job: &Job, answer| job.is_add() && matches!(answer, NO_ROOM | GAVE_UP);
-    let mut remaining = 0;
-    for (at, job) in jobs.iter().enumerate() {
-        if !left_out(job, answers[at]) {
-            remaining |= 1 << at;
-        }
-    }
-    let mut search = Search {
-        jobs,
-        answers,
-        end: zone::as_set(end),
-        dead: HashSet::new(),
-        order: Vec::new(),
-    };
+    serial_order_keeping(start, jobs, end, answers, &vec![0; jobs.len()])
+}
+
+/// The same, of orders where `before[at]` has a bit for every job that must
+/// stand before job `at`. Bits of jobs that are left out do not count.
+pub fn serial_order_keeping(
+    start: &Zone,
+    jobs: &[Job],
+    end: &Zone,
+    answers: &[u8],
+    before: &[u64],
+) -> Option<Vec<usize>> {
+    let mut search = Search::new(jobs, end, answers, before);
+    let remaining = search.remaining();
     search.extend(start, remaining).then_some(search.order)
+}
+
+/// Whether a job that ended with this stage has no place in an order: an add
+/// that found no room or gave up.
+pub fn is_left_out(job: &Job, answer: u8) -> bool {
+    job.is_add() && matches!(answer, NO_ROOM | GAVE_UP)
 }
 
 type ZoneSet = BTreeMap<Vec<u8>, Holding>;
@@ -194,13 +201,35 @@ type ZoneSet = BTreeMap<Vec<u8>, Holding>;
 struct Search<'a> {
     jobs: &'a [Job],
     answers: &'a [u8],
+    /// The jobs that must stand before each job.
+    before: &'a [u64],
     end: ZoneSet,
-    /// Jobs left and zones from which no order leads to the end.
+    /// Jobs left and zones from which no order leads to the end. Which of the
+    /// jobs left must stand before which is told by the jobs left alone.
     dead: HashSet<(u64, ZoneSet)>,
     order: Vec<usize>,
 }
 
-impl Search<'_> {
+impl<'a> Search<'a> {
+    fn new(jobs: &'a [Job], end: &Zone, answers: &'a [u8], before: &'a [u64]) -> Search<'a> {
+        assert!(jobs.len() <= 64 && jobs.len() == answers.len() && jobs.len() == before.len());
+        Search {
+            jobs,
+            answers,
+            before,
+            end: zone::as_set(end),
+            dead: HashSet::new(),
+            order: Vec::new(),
+        }
+    }
+
+    /// The jobs that have a place in an order.
+    fn remaining(&self) -> u64 {
+        let left_out = |&at: &usize| is_left_out(&self.jobs[at], self.answers[at]);
+        let places = (0..self.jobs.len()).filter(|at| !left_out(at));
+        places.fold(0, |remaining, at| remaining | 1 << at)
+    }
+
     /// Whether the jobs in `remaining` can follow; `order` then has them.
     fn extend(&mut self, zone: &Zone, remaining: u64) -> bool {
         let state = (remaining, zone::as_set(zone));
@@ -211,7 +240,7 @@ impl Search<'_> {
             return false;
         }
         for at in 0..self.jobs.len() {
-            if remaining >> at & 1 == 0 || self.twin_before(at, remaining) {
+            if !self.is_next(at, remaining) || self.twin_before(at, remaining) {
                 continue;
             }
             if let Some(next) = self.run(zone, at) {
@@ -226,14 +255,29 @@ impl Search<'_> {
         false
     }
 
-    /// Whether an earlier job that remains is alike, so that trying this one
-    /// in its place shows nothing new.
+    /// Whether a job remains and none that must stand before it does.
+    fn is_next(&self, at: usize, remaining: u64) -> bool {
+        remaining >> at & 1 == 1 && self.before[at] & remaining == 0
+    }
+
+    /// Whether an earlier job that could be next is alike, so that trying this
+    /// one in its place shows nothing new. Where both could be next, they may
+    /// change places in an order if the same jobs must stand after them.
     fn twin_before(&self, at: usize, remaining: u64) -> bool {
         (0..at).any(|other| {
-            remaining >> other & 1 == 1
+            self.is_next(other, remaining)
                 && self.jobs[other] == self.jobs[at]
                 && self.answers[other] == self.answers[at]
+                && self.same_after(other, at, remaining)
         })
+    }
+
+    /// Whether the jobs that remain and must stand after one job are those
+    /// that must stand after another.
+    fn same_after(&self, one: usize, other: usize, remaining: u64) -> bool {
+        let remains = |at: &usize| remaining >> at & 1 == 1;
+        let mut left = (0..self.jobs.len()).filter(remains);
+        left.all(|at| (self.before[at] >> one ^ self.before[at] >> other) & 1 == 0)
     }
 
     /// The zone after one whole job, unless an add answers otherwise.
@@ -318,6 +362,62 @@ mod tests {
             serial_order(&start, &fresh, &start, &[GONE, CONFLICT]),
             None
         );
+    }
+
+    #[test]
+    fn an_order_keeps_who_stands_before_whom() {
+        // X leaves and comes back, or comes first and then leaves.
+        let start = zone(&[held(0, X, 1)]);
+        let end = zone(&[held(0, X, 9)]);
+        let jobs = [remove(0, X, 1), add(0, X, 9)];
+        let order = |before: [u64; 2]| {
+            let answers = [GONE, DONE];
+            serial_order_keeping(&start, &jobs, &end, &answers, &before)
+        };
+        assert_eq!(order([0, 0b01]), Some(vec![0, 1]));
+        assert_eq!(order([0b10, 0]), Some(vec![1, 0]));
+        assert_eq!(order([0b10, 0b01]), None);
+        assert_eq!(order([0b01, 0]), None);
+        assert!(order([0, 0]).is_some());
+    }
+
+    #[test]
+    fn jobs_left_out_stand_before_none() {
+        let jobs = [add(0, X, 1), add(1, X, 1)];
+        let end = zone(&[held(1, X, 1)]);
+        let order = |answers| serial_order_keeping(&Zone::EMPTY, &jobs, &end, answers, &[0, 0b01]);
+        assert_eq!(order(&[NO_ROOM, DONE]), Some(vec![1]));
+        assert_eq!(order(&[GAVE_UP, DONE]), Some(vec![1]));
+        assert_eq!(order(&[DONE, DONE]), None);
+    }
+
+    #[test]
+    fn alike_jobs_keep_who_stands_before_them() {
+        // Y's conflict needs X's name, and the first of X's adds comes after.
+        let jobs = [add(0, X, 1), add(0, X, 1), add(0, Y, 2)];
+        let end = zone(&[held(0, X, 1)]);
+        let order = |before: [u64; 3]| {
+            let answers = [DONE, DONE, CONFLICT];
+            serial_order_keeping(&Zone::EMPTY, &jobs, &end, &answers, &before)
+        };
+        assert_eq!(order([0b100, 0, 0]), Some(vec![1, 2, 0]));
+        assert_eq!(order([0, 0b100, 0]), Some(vec![0, 2, 1]));
+        assert_eq!(order([0b100, 0b100, 0]), None);
+    }
+
+    #[test]
+    fn alike_jobs_keep_who_stands_after_them() {
+        // X's name stands at the end, so an add comes after the remove. One
+        // comes before it, and that is the one that has to.
+        let jobs = [add(0, X, 1), add(0, X, 1), remove(0, X, 1)];
+        let end = zone(&[held(0, X, 1)]);
+        let order = |before: [u64; 3]| {
+            let answers = [DONE, DONE, GONE];
+            serial_order_keeping(&Zone::EMPTY, &jobs, &end, &answers, &before)
+        };
+        assert_eq!(order([0, 0, 0b010]), Some(vec![1, 2, 0]));
+        assert_eq!(order([0, 0, 0b001]), Some(vec![0, 2, 1]));
+        assert_eq!(order([0, 0, 0b011]), None);
     }
 
     #[test]
@@ -540,6 +640,17 @@ mod tests {
             let policy = [0, 0, 0, 1, 2][usize::from(self.below(5))];
             new_add(&name, &dhcid, family, &address, policy).unwrap()
         }
+
+        /// Steps of the jobs in any mixture; the zone they leave, and the
+        /// stages with which the jobs ended.
+        fn mix(&mut self, start: &Zone, fresh: &[Job]) -> (Zone, Vec<u8>) {
+            let (mut z, mut jobs) = (start.clone(), fresh.to_vec());
+            while !jobs.iter().all(Job::has_ended) {
+                let at = usize::from(self.below(jobs.len() as u64));
+                go(&mut z, &mut jobs[at]);
+            }
+            (z, jobs.iter().map(|job| job.stage).collect())
+        }
     }
 
     #[test]
@@ -554,12 +665,7 @@ mod tests {
             };
             let start = random.zone(filler);
             let fresh: Vec<Job> = (0..2 + random.below(4)).map(|_| random.job()).collect();
-            let (mut z, mut jobs) = (start.clone(), fresh.clone());
-            while !jobs.iter().all(Job::has_ended) {
-                let at = usize::from(random.below(jobs.len() as u64));
-                go(&mut z, &mut jobs[at]);
-            }
-            let answers: Vec<u8> = jobs.iter().map(|job| job.stage).collect();
+            let (z, answers) = random.mix(&start, &fresh);
             answers
                 .iter()
                 .for_each(|&stage| ends[usize::from(stage)] += 1);
@@ -569,5 +675,38 @@ mod tests {
         for stage in [DONE, CONFLICT, NO_ROOM, NOT_OURS, GONE, KEPT] {
             assert!(ends[usize::from(stage)] > 0, "stage {stage} never came up");
         }
+    }
+
+    /// Whether the jobs in `remaining` can follow, in one of all their orders.
+    fn can_follow(search: &Search, zone: &Zone, remaining: u64) -> bool {
+        if remaining == 0 {
+            return as_set(zone) == search.end;
+        }
+        let mut places = (0..search.jobs.len()).filter(|&at| search.is_next(at, remaining));
+        places.any(|at| {
+            let next = search.run(zone, at);
+            next.is_some_and(|next| can_follow(search, &next, remaining & !(1 << at)))
+        })
+    }
+
+    #[test]
+    fn orders_are_found_where_there_are_some() {
+        let mut random = Random(0x4704);
+        let mut found = [0; 2];
+        for round in 0..3_000u32 {
+            let start = random.zone(if round % 2 == 0 { 0 } else { 62 });
+            let mut jobs = vec![random.job(), random.job(), random.job()];
+            jobs.push(jobs[usize::from(random.below(3))]);
+            let (z, answers) = random.mix(&start, &jobs);
+            let before: Vec<u64> = (0..4)
+                .map(|at| u64::from(random.below(16) & random.below(16)) & !(1 << at))
+                .collect();
+            let order = serial_order_keeping(&start, &jobs, &z, &answers, &before);
+            let search = Search::new(&jobs, &z, &answers, &before);
+            let is_some = can_follow(&search, &start, search.remaining());
+            assert_eq!(order.is_some(), is_some, "{jobs:?} {answers:?} {before:?}");
+            found[usize::from(is_some)] += 1;
+        }
+        assert!(found.iter().all(|&count| count > 500), "{found:?}");
     }
 }

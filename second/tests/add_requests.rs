@@ -8,19 +8,20 @@
 
 mod common;
 
-use common::jobs::{self, called, Pool};
-use common::lent::is_same;
+use common::jobs::{called, Pool};
 use common::letters::is_spelled_alike;
-use common::product::{self, Way, WAYS};
+use common::pipe;
+use common::product::{Way, WAYS};
 use common::random::{from_both_seeds, Random};
 use common::requests::{Kind, Request};
+use common::step_list::{Leads, List, REFUSED};
 use common::step_log::{Asked, Step};
 use common::tally::Tally;
 use common::twin::Twin;
 use common::zones::again;
 use jespurla::raw;
 use second::job::{self, Job};
-use second::zone::{Address, Dhcid, Entry, Name, Set, Zone, FREE, HELD};
+use second::zone::{Address, Entry, Name, FREE, HELD};
 
 /// Lists run by one run, at the least; two runs are made.
 const LISTS: usize = 40_000;
@@ -36,8 +37,6 @@ const STEPPED: &[&str] = &[
     "step by value",
     "step lent",
     "step after the job's end",
-    "step refused, zone",
-    "step refused, job",
     "deletion by value",
     "deletion lent",
     "deletion beside another name",
@@ -160,132 +159,22 @@ impl Add {
     }
 }
 
-/// A list of steps under way: the zone that the last step left, the jobs as
-/// their last steps left them, and the log.
-struct List {
-    title: String,
-    zone: raw::Zone,
-    jobs: Vec<raw::Job>,
-    /// The numbers of those jobs that are adds.
-    adds: Vec<usize>,
-    /// The jobs' names, each once.
-    names: Vec<Name>,
-    log: Vec<Step>,
-}
-
-impl List {
-    fn new(title: String, zone: &Zone) -> List {
-        List {
-            title,
-            zone: zone.twin(),
-            jobs: Vec::new(),
-            adds: Vec::new(),
-            names: Vec::new(),
-            log: Vec::new(),
+/// The adds of a list, each held to the bounds; its count is N.
+fn adds(list: &List) -> Vec<Add> {
+    let is_add = |&number: &usize| list.jobs[number].twin().is_add();
+    let numbers = (0..list.jobs.len()).filter(is_add);
+    let adds: Vec<Add> = numbers.map(|number| Add::new(list, number)).collect();
+    for add in &adds {
+        let (number, count) = (add.number, usize::from(add.job.count));
+        let (n, r) = (add.asked.sent(), add.asked.deleted());
+        if count != n {
+            list.fail(&format!("job {number} counts {count}, but N is {n}"));
+        }
+        if let Some(bound) = broken_bound(add.job.stage, n, r) {
+            list.fail(&format!("{bound}; job {number} has {n}, r is {r}"));
         }
     }
-
-    /// Takes in a fresh job; its number.
-    fn take(&mut self, request: &Request) -> usize {
-        let made = product::new_job(request);
-        assert_eq!(made.refusal, 0, "{request:02x?}");
-        if !self.names.contains(&request.name) {
-            self.names.push(request.name);
-        }
-        let number = self.jobs.len();
-        if request.kind == Kind::A {
-            self.adds.push(number);
-        }
-        self.jobs.push(made.job);
-        number
-    }
-
-    /// What the product finds at a name.
-    fn find(&self, name: &Name) -> Entry {
-        let found = raw::zone_find(&self.zone, &name.twin());
-        assert_eq!(found.refusal, 0, "{name:02x?}");
-        found.entry.twin()
-    }
-
-    /// Which of the names stand in the zone.
-    fn standing(&self) -> Vec<bool> {
-        let kinds = self.names.iter().map(|name| self.find(name).kind);
-        kinds.map(|kind| kind != FREE).collect()
-    }
-
-    /// Steps a job. The step is a deletion exactly if its name stood before it
-    /// and no longer does; whether other names stand is as before.
-    fn step(&mut self, way: Way, number: usize) -> Step {
-        let given = self.jobs[number];
-        let stood = self.standing();
-        let told = way.step(&mut self.zone, &given);
-        assert_eq!(told.refusal, 0, "{given:02x?}");
-        self.jobs[number] = told.job;
-        let step = Step {
-            job: number,
-            name: given.name.twin(),
-            before: given.stage,
-            after: told.job.stage,
-            refused: false,
-        };
-        self.log.push(step);
-        let stands = self.standing();
-        for (at, name) in self.names.iter().enumerate() {
-            let fell = stood[at] && !stands[at];
-            if *name == step.name && fell != step.is_deletion() {
-                self.fail("the last step deletes its name, or its stages say so, not both");
-            }
-            if *name != step.name && stood[at] != stands[at] {
-                self.fail("the last step adds or deletes another name");
-            }
-        }
-        step
-    }
-
-    /// A step that is refused, of one of the jobs or of what was made of it,
-    /// on any zone. Nothing changes.
-    fn refused_step(&mut self, way: Way, number: usize, zone: &Zone, job: &Job) -> u32 {
-        let (given, mut lent) = (zone.twin(), zone.twin());
-        let told = way.step(&mut lent, &job.twin());
-        assert_ne!(told.refusal, 0, "{job:02x?}");
-        assert!(told.job == job.twin() && is_same(&lent, &given));
-        self.log.push(Step {
-            job: number,
-            name: job.name,
-            before: job.stage,
-            after: told.job.stage,
-            refused: true,
-        });
-        told.refusal
-    }
-
-    /// The adds, each held to the bounds; its count is N.
-    fn adds(&self) -> Vec<Add> {
-        let adds = self.adds.iter().map(|&number| Add::new(self, number));
-        let adds: Vec<Add> = adds.collect();
-        for add in &adds {
-            let (number, count) = (add.number, usize::from(add.job.count));
-            let (n, r) = (add.asked.sent(), add.asked.deleted());
-            if count != n {
-                self.fail(&format!("job {number} counts {count}, but N is {n}"));
-            }
-            if let Some(bound) = broken_bound(add.job.stage, n, r) {
-                self.fail(&format!("{bound}; job {number} has {n}, r is {r}"));
-            }
-        }
-        adds
-    }
-
-    /// Prints the log and fails.
-    fn fail(&self, what: &str) -> ! {
-        for step in &self.log {
-            let refused = if step.refused { ", refused" } else { "" };
-            let (job, before, after) = (step.job, step.before, step.after);
-            let name = step.name.as_slice().escape_ascii();
-            println!("job {job} from {before} to {after}{refused}, {name}");
-        }
-        panic!("{what}; {}", self.title);
-    }
+    adds
 }
 
 /// A run from one seed: what it drew and what it counted.
@@ -299,7 +188,7 @@ impl Run {
         let wrong = WRONG.map(|(claim, _)| claim);
         Run {
             random: Random::new(seed),
-            tally: Tally::new(&[STEPPED, KINDS, &wrong]),
+            tally: Tally::new(&[STEPPED, REFUSED, KINDS, &wrong]),
         }
     }
 
@@ -321,7 +210,9 @@ impl Run {
         let loose = self.random.pick(&[1, 3, 10, 30]);
         for _ in 0..self.random.between(0, STEPS) {
             if self.random.one_in(8) {
-                self.refused_step(&mut list, &pool);
+                let way = self.random.pick(&WAYS);
+                let kind = list.broken_step(&mut self.random, &pool, way);
+                self.tally.count(kind);
             }
             if self.random.one_in(16) {
                 list.take(&pool.request(&mut self.random));
@@ -409,26 +300,8 @@ impl Run {
         }
     }
 
-    /// A step of one of the jobs with a broken zone, or with the job broken.
-    fn refused_step(&mut self, list: &mut List, pool: &Pool) {
-        let way = self.random.pick(&WAYS);
-        let number = self.random.below(list.jobs.len());
-        let (mut zone, mut job) = (list.zone.twin(), list.jobs[number].twin());
-        if self.random.one_in(2) {
-            pool.break_zone(&mut self.random, &mut zone);
-        } else {
-            jobs::break_number(&mut self.random, &mut job);
-        }
-        let refusal = list.refused_step(way, number, &zone, &job);
-        self.tally.count(match refusal {
-            17 => "step refused, zone",
-            18 => "step refused, job",
-            _ => panic!("refusal {refusal} of {job:02x?}"),
-        });
-    }
-
     fn count_list(&mut self, list: &List) {
-        let adds = list.adds();
+        let adds = adds(list);
         for add in &adds {
             self.count_end(add);
             self.count_deletions(add);
@@ -529,50 +402,19 @@ const Y: usize = 0;
 const X_REMOVE: [usize; 5] = [1, 2, 3, 4, 5];
 const X_ADD: [usize; 4] = [6, 7, 8, 9];
 
-/// The DHCIDs of X and Y.
-const OWNERS: [Dhcid; 2] = [[1; 35], [2; 35]];
-
-fn pipe() -> Name {
-    Name::new(b"\x04pipe\0").expect("short")
-}
-
-/// A request of X or Y for the name, with the address 10.0.0.1 or 10.0.0.2.
-fn request(kind: Kind, owner: usize) -> Request {
-    let mut address = [0; 16];
-    address[..4].copy_from_slice(&[10, 0, 0, 1 + owner as u8]);
-    Request {
-        kind,
-        name: pipe(),
-        dhcid: OWNERS[owner],
-        family: 4,
-        address,
-        policy: 0,
-    }
-}
-
 /// A list of the jobs above, none stepped yet.
 fn fixed_list() -> List {
-    let mut zone = Zone::EMPTY;
-    zone.entries[0] = Entry {
-        kind: HELD,
-        name: pipe(),
-        dhcid: OWNERS[0],
-        v4: Set::only([10, 0, 0, 1]),
-        ..Entry::FREE
-    };
-    let mut list = List::new("fixed list".to_string(), &zone);
-    assert_eq!(list.take(&request(Kind::A, 1)), Y);
+    let mut list = List::new("fixed list".to_string(), &pipe::zone());
+    assert_eq!(list.take(&pipe::request(Kind::A, pipe::Y, 2)), Y);
+    let of_x = |kind| pipe::request(kind, pipe::X, 1);
     for number in X_REMOVE {
-        assert_eq!(list.take(&request(Kind::RemoveFirst, 0)), number);
+        assert_eq!(list.take(&of_x(Kind::RemoveFirst)), number);
     }
     for number in X_ADD {
-        assert_eq!(list.take(&request(Kind::A, 0)), number);
+        assert_eq!(list.take(&of_x(Kind::A)), number);
     }
     list
 }
-
-/// A step of a fixed list: a job's number, and the stage that the step leads to.
-type Leads = (usize, u8);
 
 /// X's first remove deletes the name, and X's first add adds it again.
 const OPENING: [Leads; 3] = [
@@ -610,10 +452,8 @@ fn conflict_after(rounds: usize) -> [Leads; 4] {
 fn y_of(parts: &[&[Leads]]) -> (usize, usize, u8) {
     let [by_value, lent] = WAYS.map(|way| {
         let mut list = fixed_list();
-        for (at, (number, stage)) in parts.concat().into_iter().enumerate() {
-            assert_eq!(list.step(way, number).after, stage, "step {at}");
-        }
-        let y = &list.adds()[0];
+        list.follow(way, &parts.concat());
+        let y = &adds(&list)[0];
         let asked = &y.asked;
         assert_eq!((asked.deleted_before(), asked.deleted_after()), (1, 1));
         (asked.sent(), asked.deleted(), y.job.stage)

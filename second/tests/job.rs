@@ -547,8 +547,8 @@ impl Run {
         members.sort_by_key(|member| member.ended);
         let fresh: Vec<Job> = members.iter().map(|member| member.fresh).collect();
         let answers: Vec<u8> = members.iter().map(|member| member.now.stage).collect();
-        let left_out = |&&stage: &&u8| matches!(stage, job::NO_ROOM | job::GAVE_UP);
-        let left_out = answers.iter().filter(left_out).count();
+        let left_out = |member: &&Member| job::is_left_out(&member.fresh, member.now.stage);
+        let left_out = members.iter().filter(left_out).count();
         let remaining = members.len() - left_out;
         if remaining > ORDER_MAX {
             return;

@@ -246,23 +246,39 @@ impl Pool {
         }
     }
 
-    /// A zone where a job's name is held, with its address only.
-    fn zone_with(&self, random: &mut Random, job: &Request) -> Zone {
-        let mut zone = self.zone(random);
-        let named = |entry: &Entry| entry.kind != FREE && entry.name == job.name;
-        let known = zone.entries.iter().position(named);
-        let at = known.unwrap_or_else(|| random.below(PLACES));
-        let mut entry = Entry {
-            kind: HELD,
-            name: again(random, &job.name),
-            dhcid: job.dhcid,
-            ..Entry::FREE
+    /// A start where jobs on two names want the last place of a zone: an owner
+    /// gives it up and takes it back, and adds of the other name take it.
+    pub fn crowd(&self, random: &mut Random) -> Start {
+        let owner = Request {
+            kind: Kind::RemoveFirst,
+            policy: 0,
+            ..self.request(random)
         };
-        match job.family {
-            4 => entry.v4 = Set::only(std::array::from_fn(|octet| job.address[octet])),
-            _ => entry.v6 = Set::only(job.address),
+        let [remove, add] = [Kind::RemoveFirst, Kind::A].map(|kind| (kind, owner.name));
+        let other = (Kind::A, filler(PLACES));
+        let mut jobs = vec![owner];
+        for _ in 1..random.between(2, 4) {
+            let (kind, name) = random.pick(&[remove, add, other, other, other, other]);
+            let name = again(random, &name);
+            jobs.push(Request {
+                kind,
+                name,
+                ..owner
+            });
         }
-        zone.entries[at] = entry;
+        let mut zone = self.zone_of(random, vec![owner.name], PLACES);
+        hold(random, &mut zone, &owner);
+        Start {
+            zone,
+            jobs,
+            steps: vec![0; random.pick(&[0, 2, 2, 2])],
+        }
+    }
+
+    /// A zone where a job's name is held, with its address only.
+    pub fn zone_with(&self, random: &mut Random, job: &Request) -> Zone {
+        let mut zone = self.zone(random);
+        hold(random, &mut zone, job);
         zone
     }
 
@@ -321,6 +337,24 @@ impl Pool {
     pub fn break_zone(&self, random: &mut Random, zone: &mut Zone) -> &'static str {
         self.stock.break_zone(random, zone)
     }
+}
+
+/// Lets a job's name be held, with its address only.
+fn hold(random: &mut Random, zone: &mut Zone, job: &Request) {
+    let named = |entry: &Entry| entry.kind != FREE && entry.name == job.name;
+    let known = zone.entries.iter().position(named);
+    let at = known.unwrap_or_else(|| random.below(PLACES));
+    let mut entry = Entry {
+        kind: HELD,
+        name: again(random, &job.name),
+        dhcid: job.dhcid,
+        ..Entry::FREE
+    };
+    match job.family {
+        4 => entry.v4 = Set::only(std::array::from_fn(|octet| job.address[octet])),
+        _ => entry.v6 = Set::only(job.address),
+    }
+    zone.entries[at] = entry;
 }
 
 /// Makes one of a job's numbers wrong; the way it was done. Only an add's

@@ -1,13 +1,16 @@
 //! The log of a list of job steps, kept from outside, and what it tells of the
-//! requests of an add and of the deletions of its name.
+//! requests of a job and of the deletions of an add's name.
 
 use second::job;
 use second::zone::Name;
 
-/// One step of a list: which job was handed in, with what name, and its stage
-/// before the step and after it.
+use super::product::Way;
+
+/// One step of a list: how it got the zone, which job was handed in, with what
+/// name, and its stage before the step and after it.
 #[derive(Clone, Copy)]
 pub struct Step {
+    pub way: Way,
     pub job: usize,
     pub name: Name,
     pub before: u8,
@@ -45,7 +48,7 @@ impl Asked {
     /// letters.
     pub fn new(log: &[Step], add: usize, name: &Name) -> Asked {
         Asked {
-            requests: places(log, |step| step.is_request() && step.job == add),
+            requests: requests_of(log, add),
             deletions: places(log, |step| step.is_deletion() && step.name == *name),
         }
     }
@@ -85,6 +88,11 @@ impl Asked {
         let places = self.deletions.iter().copied();
         places.filter(|&at| test(at)).collect()
     }
+}
+
+/// Where the requests of a job stand; the places rise.
+pub fn requests_of(log: &[Step], job: usize) -> Vec<usize> {
+    places(log, |step| step.is_request() && step.job == job)
 }
 
 /// The places of the steps that pass a test.

@@ -277,7 +277,7 @@ impl Stock {
     }
 }
 
-/// One of 64 names that are in no stock.
+/// One of 65 names that are in no stock.
 pub fn filler(number: usize) -> Name {
     let octets = [5, b'F', b'i', b'l', b'l', 128 + number as u8, 0];
     Name::new(&octets).expect("short")
