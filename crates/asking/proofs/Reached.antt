@@ -16,7 +16,7 @@ use Rattle.serial.specs.Values.{areOctets, Values, Held}
 use Rattle.serial.specs.Limits.{xAdds}
 use Rattle.serial.specs.P12.{pipe, xRemoves, yAdds}
 use Rattle.serial.proofs.Running.{taken}
-use Rattle.serial.proofs.P12Zones.{full, clear, full-value, full-formed}
+use Rattle.serial.proofs.P12Zones.{small, full, clear, full-value, full-formed}
 use Rattle.serial.proofs.P12Runs.{kx, ky, new-x, new-y, y-is, x-values, y-values}
 use Rattle.asking.specs.Asking.{begun, unfinished, deletions, Add, stage, requests, deletedBetween}
 use Rattle.asking.specs.Reached.{Reached, AllReached, Tight}
@@ -27,23 +27,23 @@ use Rattle.asking.proofs.Rounds.{kx₃, kx⁺₂, So, YAt, Octet, withi
 
 abbrev others : ℕ → List Job
 others zero = kx ∷ []
-others (suc k) = kx ∷ kx⁺ 1 ∷ others k
+others (suc k) = kx ∷ kx⁺ pipe small 1 ∷ others k
 
 abbrev asked : ℕ → List Arguments
 asked zero = xRemoves ∷ []
-asked (suc k) = xRemoves ∷ xAdds 1 ∷ asked k
+asked (suc k) = xRemoves ∷ xAdds pipe 1 ∷ asked k
 
 abbrev all : ℕ → List Job
 all k = ky ∷ others k
 
 fresh-others : (k : ℕ) → Fresh running (asked k) (others k)
 fresh-others zero = oneMore new-x noJob
-fresh-others (suc k) = oneMore new-x (oneMore (new-x⁺ 1) (fresh-others k))
+fresh-others (suc k) = oneMore new-x (oneMore (new-x⁺ pipe small 1) (fresh-others k))
 
 other-values : (k : ℕ) → Values (others k)
 unfolding Values
 other-values zero = (x-values .0, tt)
-other-values (suc k) = (x-values .0, (x⁺-values 1 refl .0, other-values k))
+other-values (suc k) = (x-values .0, (x⁺-values pipe small 1 refl .0, other-values k))
 
 y-first : YAt ky (beforeA 0)
 y-first = record { is = y-is; ok = taken .new-ok yAdds ky new-y; value = y-values .0 }

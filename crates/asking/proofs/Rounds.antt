@@ -24,7 +24,7 @@ use Rattle.serial.specs.Values.{ZoneValue, areOctets, JobValue, Held}
 use Rattle.serial.specs.P12.{pipe, xRemoves, yAdds}
 use Rattle.serial.proofs.ListLaws.{set-same}
 use Rattle.serial.proofs.Running.{Ok}
-use Rattle.serial.proofs.P12Zones.{full, bare, clear, full-value, bare-value, clear-value}
+use Rattle.serial.proofs.P12Zones.{small, full, bare, clear, full-value, bare-value, clear-value}
 use Rattle.serial.proofs.P12Runs.{Turn, meets, next-is, next-ok, kx, kx₂, x-first, x-second, x-values, asks-bare, conflicts-bare}
 use Rattle.serial.proofs.XAdds.{kx⁺, x-adds-anew, x⁺-values}
 use Rattle.asking.specs.Asking.{isSecond, endedGone, deletes, begun, unfinished, deletions}
@@ -36,7 +36,7 @@ abbrev pub kx₃ : Job
 kx₃ = atStage kx₂ (ended gone)
 
 abbrev pub kx⁺₂ : Job
-kx⁺₂ = atStage (kx⁺ 1) (ended (done 1))
+kx⁺₂ = atStage (kx⁺ pipe small 1) (ended (done 1))
 
 -- What a deletion counts where N requests have been sent, of m.
 abbrev between : ℕ → ℕ → Bool
@@ -115,8 +115,8 @@ module _ (ks₀ : List Job) where
     deletes-name so a g = deleting so (suc a) g x-second clear-value (x-values .2) (λ e. omega arith) x-deletes-pipe
 
     -- X's add b
-    pub adds-again : So clear (y ∷ rest) N D → (b : ℕ) → getElem? rest b ≡ some (kx⁺ 1) → So full (y ∷ set rest b kx⁺₂) N D
-    adds-again so b g = quiet so (suc b) g (x-adds-anew 1) full-value (x⁺-values 1 refl .1) (λ e. omega arith) refl
+    pub adds-again : So clear (y ∷ rest) N D → (b : ℕ) → getElem? rest b ≡ some (kx⁺ pipe small 1) → So full (y ∷ set rest b kx⁺₂) N D
+    adds-again so b g = quiet so (suc b) g (x-adds-anew pipe small 1) full-value (x⁺-values pipe small 1 refl .1) (λ e. omega arith) refl
 
   -- X's remove a, whole
   pub leaves : {y : Job} {rest : List Job} {N : ℕ} {D : ℕ → ℕ} → So full (y ∷ rest) N D → (a : ℕ) → getElem? rest a ≡ some kx

@@ -7,6 +7,7 @@ use Prim.Native.Nat.{ℕ, suc}
 use native.Mathlib.Omega.{arith}
 use lib.ListN.{length, replicate}
 use Rattle.octets.specs.Compare.{sameOctets}
+use Rattle.octets.specs.Count.{Octets}
 use Rattle.addresses.specs.Addresses.{four, nothing}
 use Rattle.dname.specs.Name.{labelsOf, limited, shapeOf, isFull, nameOf}
 use Rattle.zone.specs.declared.entry.Address.{Address}
@@ -30,7 +31,7 @@ use Rattle.serial.specs.Values.{areOctets, JobValue}
 use Rattle.serial.specs.P12.{pipe, xDhcid, yDhcid, net10, xRemoves, yAdds, alone, oneAddress, xHost, heldByX, noNames, P12, P12Runs}
 use Rattle.serial.proofs.Running.{Ok, kept-promises, taken}
 use Rattle.serial.proofs.RunningCases.{p12-runs}
-use Rattle.serial.proofs.P12Zones.{pipeName, ofX, full, bare, clear, full-value, bare-value, clear-value, full-formed, bare-formed, clear-formed, full-zone, bare-zone, clear-zone, held-spelled, clear-spelled}
+use Rattle.serial.proofs.P12Zones.{nameIn, Pipe, small, ofX, full, bare, clear, full-value, bare-value, clear-value, full-formed, bare-formed, clear-formed, full-zone, bare-zone, clear-zone, held-spelled, clear-spelled}
 use Rattle.serial.proofs.RequestLaws.{state}
 use Rattle.serial.proofs.P12Steps.{x-takes, y-asks, y-conflicts, x-deletes}
 use Rattle.serial.proofs.OneName.{no4, one4, octets-append}
@@ -51,18 +52,18 @@ abbrev addressY : Address
 addressY = addressOf 2
 
 abbrev pub kx : Job
-kx = freshRemove pipeName ofX 4 addressX
+kx = freshRemove (nameIn pipe) ofX 4 addressX
 
 abbrev pub ky : Job
-ky = freshAdd pipeName ofY 4 addressY 0
+ky = freshAdd (nameIn pipe) ofY 4 addressY 0
 
 pub new-x : NewCall xRemoves kx
-unfolding xRemoves updateOf familyOf pipeName pipe
-new-x = newRemove pipeName ofX 4 addressX (record { refusal = 0; job = kx }) (unfold newJob newRefusal listed isFull shapeOf limited labelsOf in refl) refl
+unfolding xRemoves updateOf familyOf nameIn pipe
+new-x = newRemove (nameIn pipe) ofX 4 addressX (record { refusal = 0; job = kx }) (unfold newJob newRefusal listed isFull shapeOf limited labelsOf in refl) refl
 
 pub new-y : NewCall yAdds ky
-unfolding yAdds updateOf familyOf policyOf pipeName pipe
-new-y = newAdd pipeName ofY 4 addressY 0 (record { refusal = 0; job = ky }) (unfold newJob newRefusal listed isFull shapeOf limited labelsOf in refl) refl
+unfolding yAdds updateOf familyOf policyOf nameIn pipe
+new-y = newAdd (nameIn pipe) ofY 4 addressY 0 (record { refusal = 0; job = ky }) (unfold newJob newRefusal listed isFull shapeOf limited labelsOf in refl) refl
 
 -- ---- what the steps return
 
@@ -215,25 +216,25 @@ p12-of-calls = record {
   x-second = meets x-second;
 }
 
--- A job for pipe is a value whatever its stage and its count, as far as they are octets.
-module _ (d : Dhcid) (a : Address) (dn : length (d .octets) ≡ 35) (an : length (a .octets) ≡ 16) (l : areOctets (d .octets ++ a .octets) ≡ true) where
+-- A job for the name is a value whatever its stage and its count, as far as they are octets.
+module _ (name : Octets) (p : Pipe name) (d : Dhcid) (a : Address) (dn : length (d .octets) ≡ 35) (an : length (a .octets) ≡ 16) (l : areOctets (d .octets ++ a .octets) ≡ true) where
   pub job-value : (stage count : ℕ) → areOctets (stage ∷ count ∷ []) ≡ true
-      → JobValue (record { stage = stage; count = count; family = 4; policy = 0; name = pipeName; dhcid = d; address = a })
-  unfolding pipeName
+      → JobValue (record { stage = stage; count = count; family = 4; policy = 0; name = nameIn name; dhcid = d; address = a })
   job-value stage count h = record {
-    name = unfold pipe in refl;
+    name = p .size;
     dhcid = dn;
     address = an;
-    octets = octets-append (stage ∷ count ∷ []) (4 ∷ 0 ∷ 6 ∷ (pipeName .octets ++ (d .octets ++ a .octets))) h (octets-append (4 ∷ 0 ∷ 6 ∷ pipeName .octets) (d .octets ++ a .octets) (unfold pipe areOctets in refl) l);
+    octets = octets-append (stage ∷ count ∷ []) (4 ∷ 0 ∷ nameIn name .len ∷ (nameIn name .octets ++ (d .octets ++ a .octets))) h
+        (octets-append (4 ∷ 0 ∷ nameIn name .len ∷ nameIn name .octets) (d .octets ++ a .octets) (unfold nameIn areOctets in rw (p .octets) refl) l);
   }
 
 pub x-values : JobValue kx × JobValue kx₂ × JobValue (atStage kx₂ (ended gone))
 unfolding freshRemove atStage stageNumber stageCount xDhcid areOctets
-x-values = (job-value ofX addressX refl refl refl 11 0 refl, job-value ofX addressX refl refl refl 12 0 refl, job-value ofX addressX refl refl refl 14 0 refl)
+x-values = (job-value pipe small ofX addressX refl refl refl 11 0 refl, job-value pipe small ofX addressX refl refl refl 12 0 refl, job-value pipe small ofX addressX refl refl refl 14 0 refl)
 
 pub y-values : JobValue ky × JobValue ky₂ × JobValue (atStage ky₂ (ended (conflict 2)))
 unfolding freshAdd atStage stageNumber stageCount yDhcid areOctets
-y-values = (job-value ofY addressY refl refl refl 1 0 refl, job-value ofY addressY refl refl refl 2 1 refl, job-value ofY addressY refl refl refl 4 2 refl)
+y-values = (job-value pipe small ofY addressY refl refl refl 1 0 refl, job-value pipe small ofY addressY refl refl refl 2 1 refl, job-value pipe small ofY addressY refl refl refl 4 2 refl)
 
 pub p12-happens : P12Runs
 unfolding p12-of-calls

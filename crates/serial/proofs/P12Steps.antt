@@ -12,7 +12,7 @@ use Rattle.update.specs.Rules as rules
 use Rattle.update.specs.Rules.{Host, with, withName, withoutName, withAddress, withoutAddress, newHost, heldBy, empty, requestA, requestB, removeAddress, deleteName, removeName}
 use Rattle.job.specs.Jobs.{beforeA, beforeB, beforeFirst, beforeSecond, ended, conflict, gone, after, afterFirst, afterSecond, step}
 use Rattle.serial.proofs.RequestLaws.{state}
-use Rattle.serial.specs.P12.{pipe, xDhcid, yDhcid, address1, xPipe, xRemoves, yAdds, alone, oneAddress, xHost, heldByX, noNames}
+use Rattle.serial.specs.P12.{pipe, xDhcid, yDhcid, address1, xUpdate, xRemoves, yAdds, alone, oneAddress, xHost, heldByX, noNames}
 
 -- ---- X's name with other addresses
 
@@ -25,28 +25,33 @@ host-is h s o e g = λ i. record { owner = o i; addresses = fun-ext each i }
     each four = e
     each six = g
 
-module _ (a : Octets) (s : Addresses) where
-  pub host-less : withoutAddress (xPipe a) (xHost s) ≡ xHost (excluding a s)
-  host-less = host-is (withoutAddress (xPipe a) (xHost s)) (excluding a s) (unfold xHost withoutAddress with in refl) (unfold xHost withoutAddress with in refl) (unfold xHost withoutAddress with in refl)
+module _ (name a : Octets) (s : Addresses) where
+  pub host-less : withoutAddress (xUpdate name a) (xHost s) ≡ xHost (excluding a s)
+  host-less = host-is (withoutAddress (xUpdate name a) (xHost s)) (excluding a s) (unfold xHost withoutAddress with in refl) (unfold xHost withoutAddress with in refl) (unfold xHost withoutAddress with in refl)
 
-  pub host-more : withAddress (xPipe a) (xHost s) ≡ xHost (including a s)
-  host-more = host-is (withAddress (xPipe a) (xHost s)) (including a s) (unfold xHost withAddress with in refl) (unfold xHost withAddress with in refl) (unfold xHost withAddress with in refl)
+  pub host-more : withAddress (xUpdate name a) (xHost s) ≡ xHost (including a s)
+  host-more = host-is (withAddress (xUpdate name a) (xHost s)) (including a s) (unfold xHost withAddress with in refl) (unfold xHost withAddress with in refl) (unfold xHost withAddress with in refl)
 
-pub host-new : (a : Octets) → newHost (xPipe a) ≡ xHost (alone a)
-host-new a = host-is (newHost (xPipe a)) (alone a) (unfold newHost withAddress with in refl) (unfold newHost withAddress with including alone member in refl) (unfold newHost withAddress with in refl)
+pub host-new : (name a : Octets) → newHost (xUpdate name a) ≡ xHost (alone a)
+host-new name a = host-is (newHost (xUpdate name a)) (alone a) (unfold newHost withAddress with in refl) (unfold newHost withAddress with including alone member in refl) (unfold newHost withAddress with in refl)
 
--- pipe with these addresses written over pipe with those, and where there is no name
-pub held-over : (s t : Addresses) → withName pipe (xHost t) (heldByX s) ≡ heldByX t
-unfolding heldByX withName pipe key sameOctets
-held-over s t = λ i. record { size = 1; at = fun-ext (λ k. go (sameOctets pipe k)) i }
-  where
-    go : (b : Bool) → cond b (some (xHost t)) (cond b (some (xHost s)) none) ≡ cond b (some (xHost t)) none
-    go true = refl
-    go false = refl
+-- X's name with these addresses written over it with those, and where there is no name; in whatever letters
+module _ (name : Octets) (k : key name ≡ pipe) where
+  pub held-over : (s t : Addresses) → withName name (xHost t) (heldByX s) ≡ heldByX t
+  unfolding heldByX withName
+  held-over s t = rw (k, same-self pipe) (λ i. record { size = 1; at = fun-ext (λ n. go (sameOctets pipe n)) i })
+    where
+      go : (b : Bool) → cond b (some (xHost t)) (cond b (some (xHost s)) none) ≡ cond b (some (xHost t)) none
+      go true = refl
+      go false = refl
 
-pub held-new : (t : Addresses) → withName pipe (xHost t) noNames ≡ heldByX t
-unfolding heldByX withName pipe key sameOctets
-held-new t = refl
+  pub held-new : (t : Addresses) → withName name (xHost t) noNames ≡ heldByX t
+  unfolding heldByX withName
+  held-new t = rw k refl
+
+pub pipe-key : key pipe ≡ pipe
+unfolding pipe key
+pipe-key = refl
 
 -- one address, taken away
 pub none-left : (a : Octets) → excluding a (alone a) ≡ nothing
@@ -64,9 +69,9 @@ none-left a = λ i. record { count = count i; has = fun-ext (λ b. go (sameOctet
 
 -- X's first request takes its one address: the host that is left is X's without any.
 pub x-takes : step xRemoves (heldByX oneAddress) beforeFirst ≡ state (heldByX nothing) beforeSecond
-x-takes = found ∙ ap (λ (h : Host). state (withName pipe h (heldByX oneAddress)) beforeSecond) (host-less address1 oneAddress ∙ ap xHost (none-left address1)) ∙ ap (λ (z : rules.Zone). state z beforeSecond) (held-over oneAddress nothing)
+x-takes = found ∙ ap (λ (h : Host). state (withName pipe h (heldByX oneAddress)) beforeSecond) (host-less pipe address1 oneAddress ∙ ap xHost (none-left address1)) ∙ ap (λ (z : rules.Zone). state z beforeSecond) (held-over pipe pipe-key oneAddress nothing)
   where
-    found : step xRemoves (heldByX oneAddress) beforeFirst ≡ state (withName pipe (withoutAddress (xPipe address1) (xHost oneAddress)) (heldByX oneAddress)) beforeSecond
+    found : step xRemoves (heldByX oneAddress) beforeFirst ≡ state (withName pipe (withoutAddress (xUpdate pipe address1) (xHost oneAddress)) (heldByX oneAddress)) beforeSecond
     found = unfold heldByX xHost xRemoves pipe xDhcid step removeAddress afterFirst heldBy sameOctets key in refl
 
 -- Y's request A finds the name, its request B another owner, whatever number was sent before.

@@ -1,11 +1,11 @@
--- The three zones of P12 as structs: pipe held by X with an address, the same without one, and no name. Assumes nothing.
-use mathlib.Core.Path.{_≡_, refl, fun-ext}
+-- Zones as structs: pipe held by X, in whatever letters and with whatever addresses; those of P12 among them, and the one without a name. Assumes nothing.
+use mathlib.Core.Path.{_≡_, refl, _∙_, ap, fun-ext}
 use mathlib.Core.Bool.{true, cond}
-use mathlib.Core.List.{_++_, map}
+use mathlib.Core.List.{_∷_, _++_, map}
 use mathlib.Core.Option.{none, some}
 use Prim.Native.Nat.{ℕ}
 use lib.Dec.{ltb}
-use lib.ListN.{replicate}
+use lib.ListN.{length, replicate}
 use Rattle.octets.specs.Compare.{sameOctets}
 use Rattle.octets.specs.Count.{Octets, member, distinct}
 use Rattle.addresses.specs.declared.set4.Set4.{Set4}
@@ -19,110 +19,141 @@ use Rattle.zone.specs.Meaning.{used, keyOf, withKey, inOrder, formed}
 use Rattle.update.specs.Meaning.{hostOf, zoneOf}
 use Rattle.update.specs.Spelling.{spellingOf}
 use Rattle.request.proofs.PlaceLaws.{spellsAs}
-use Rattle.lentzone.specs.Encode.{Wide, SizedEntry}
+use Rattle.lentzone.specs.Encode.{set4Octets, set6Octets, Wide, SizedEntry}
 use Rattle.serial.specs.Values.{areOctets, ZoneValue}
 use Rattle.serial.specs.P12.{pipe, xDhcid, net10, alone, oneAddress, xHost, heldByX, noNames}
-use Rattle.serial.proofs.OneName.{no4, no6, one4, free, free-sized, free-octets, others, oneName, with-free, value-of, formed-held, zone-held, formed-none, zone-none}
+use Rattle.serial.proofs.OneName.{no4, no6, one4, free, free-sized, free-octets, octets-append, others, oneName, with-free, value-of, formed-held, zone-held, formed-none, zone-none}
 
-unfoldable pub pipeName : Name
-pipeName = record { octets = pipe ++ replicate 249 0; len = 6 }
+-- ---- the name
+
+-- A name of six octets as a struct.
+unfoldable pub nameIn : Octets → Name
+nameIn name = record { octets = name ++ replicate 249 0; len = 6 }
+
+-- pipe in some letters.
+pub record Pipe (name : Octets) : Type 0 where
+  pub is : nameOf (nameIn name) ≡ name
+  pub key : key name ≡ pipe
+  pub full : isFull name ≡ true
+  pub size : length (nameIn name .octets) ≡ 255
+  pub octets : areOctets (nameIn name .octets) ≡ true
+
+pub small : Pipe pipe
+unfolding nameIn pipe
+small = record { is = refl; key = unfold key in refl; full = unfold isFull shapeOf limited labelsOf in refl; size = refl; octets = unfold areOctets in refl }
 
 abbrev pub ofX : Dhcid
 ofX = record { octets = xDhcid }
 
--- pipe, held by X with these addresses of family 4
-unfoldable pub heldWith : Set4 → Entry
-heldWith s = record { kind = 2; name = pipeName; dhcid = ofX; v4 = s; v6 = no6 }
+-- ---- the name held by X
 
-module _ (s : Set4) where
-  held-used : used (heldWith s) ≡ true
+-- with these addresses of family 4
+unfoldable pub heldWith : Octets → Set4 → Entry
+heldWith name s = record { kind = 2; name = nameIn name; dhcid = ofX; v4 = s; v6 = no6 }
+
+module _ (name : Octets) (p : Pipe name) (s : Set4) where
+  abbrev e : Entry
+  e = heldWith name s
+
+  held-used : used e ≡ true
   unfolding heldWith used
   held-used = refl
 
-  held-key : keyOf (heldWith s) ≡ pipe
-  unfolding heldWith pipeName pipe key
-  held-key = refl
+  held-key : keyOf e ≡ pipe
+  unfolding heldWith
+  held-key = ap key (p .is) ∙ p .key
 
-  pub held-sized : Wide 4 4 (map octets4 (s .items)) → SizedEntry (heldWith s)
-  unfolding heldWith pipeName pipe xDhcid
-  held-sized w = record { name = refl; dhcid = refl; v4 = w; v6 = (refl, (refl, (refl, (refl, tt)))) }
+  held-sized : Wide 4 4 (map octets4 (s .items)) → SizedEntry e
+  unfolding heldWith
+  held-sized w = record { name = p .size; dhcid = unfold xDhcid in refl; v4 = w; v6 = (refl, (refl, (refl, (refl, tt)))) }
 
-  held-order : sound (s .count) (list4 s) ≡ true → inOrder (heldWith s) ≡ true
-  unfolding heldWith pipeName pipe inOrder isFull shapeOf limited labelsOf
-  held-order o = rw o (unfold sound distinct in refl)
+  held-order : sound (s .count) (list4 s) ≡ true → inOrder e ≡ true
+  unfolding heldWith inOrder
+  held-order o = rw (p .is, p .full, o) (unfold sound distinct in refl)
 
-  held-host : hostOf (heldWith s) ≡ xHost (setOf (list4 s))
+  held-host : hostOf e ≡ xHost (setOf (list4 s))
   unfolding heldWith hostOf xHost member
   held-host = λ i. record { owner = some xDhcid; addresses = fun-ext each i }
     where
-      each : (f : Family) → hostOf (heldWith s) .addresses f ≡ xHost (setOf (list4 s)) .addresses f
+      each : (f : Family) → hostOf (heldWith name s) .addresses f ≡ xHost (setOf (list4 s)) .addresses f
       each four = refl
       each six = refl
 
-  held-zone : zoneOf (oneName (heldWith s)) ≡ heldByX (setOf (list4 s))
-  held-zone = zone-held (heldWith s) held-used held-key (setOf (list4 s)) held-host
+  held-zone : zoneOf (oneName e) ≡ heldByX (setOf (list4 s))
+  held-zone = zone-held e held-used held-key (setOf (list4 s)) held-host
 
--- The zones: X's name with 10.0.0.n alone, with the address that P12 has, without one, and no name.
-abbrev pub fullOf : ℕ → Zone
-fullOf n = oneName (heldWith (one4 (net10 n)))
+  held-value : Wide 4 4 (map octets4 (s .items)) → areOctets (6 ∷ (xDhcid ++ (set4Octets s ++ set6Octets no6))) ≡ true → ZoneValue (oneName e)
+  held-value w o =
+      value-of e (held-sized w)
+      (unfold heldWith nameIn in octets-append (2 ∷ nameIn name .octets) (6 ∷ (xDhcid ++ (set4Octets s ++ set6Octets no6))) (unfold areOctets in rw (p .octets) refl) o)
 
+  held-formed : sound (s .count) (list4 s) ≡ true → formed (oneName e) ≡ true
+  held-formed o = formed-held e held-used held-key (held-order o)
+
+  -- how it is spelled
+  pub one-spelled : (k : Octets) → spellingOf (oneName e) k ≡ cond (sameOctets pipe k) (some name) none
+  unfolding spellingOf
+  one-spelled k = unfold withKey others in rw (held-used, held-key, with-free spellsAs 63 k) (unfold heldWith in rw (p .is) refl)
+
+-- ---- the zones
+
+-- The name with 10.0.0.n alone.
+abbrev pub fullOf : Octets → ℕ → Zone
+fullOf name n = oneName (heldWith name (one4 (net10 n)))
+
+module _ (name : Octets) (p : Pipe name) (n : ℕ) where
+  pub full-of-value : ltb n 256 ≡ true → ZoneValue (fullOf name n)
+  full-of-value h = held-value name p (one4 (net10 n)) (refl, (refl, (refl, (refl, tt)))) (unfold xDhcid areOctets in rw h refl)
+
+  pub full-of-formed : formed (fullOf name n) ≡ true
+  full-of-formed = held-formed name p (one4 (net10 n)) (unfold sound distinct member in refl)
+
+  pub full-of-zone : zoneOf (fullOf name n) ≡ heldByX (alone (net10 n))
+  unfolding alone
+  full-of-zone = held-zone name p (one4 (net10 n))
+
+-- Those of P12: with its address, without one, and no name.
 abbrev pub full : Zone
-full = fullOf 1
+full = fullOf pipe 1
 
 abbrev pub bare : Zone
-bare = oneName (heldWith no4)
+bare = oneName (heldWith pipe no4)
 
 abbrev pub clear : Zone
 clear = oneName free
 
-pub full-of-value : (n : ℕ) → ltb n 256 ≡ true → ZoneValue (fullOf n)
-full-of-value n h =
-    value-of (heldWith (one4 (net10 n))) (held-sized (one4 (net10 n)) (refl, (refl, (refl, (refl, tt))))) (unfold heldWith pipeName pipe xDhcid areOctets in rw h refl)
-
 pub full-value : ZoneValue full
-full-value = full-of-value 1 refl
+full-value = full-of-value pipe small 1 refl
 
 pub bare-value : ZoneValue bare
-bare-value = value-of (heldWith no4) (held-sized no4 (refl, (refl, (refl, (refl, tt))))) (unfold heldWith pipeName pipe xDhcid areOctets in refl)
+bare-value = held-value pipe small no4 (refl, (refl, (refl, (refl, tt)))) (unfold xDhcid areOctets in refl)
 
 pub clear-value : ZoneValue clear
 clear-value = value-of free free-sized free-octets
 
-pub full-of-formed : (n : ℕ) → formed (fullOf n) ≡ true
-full-of-formed n =
-    formed-held (heldWith (one4 (net10 n))) (held-used (one4 (net10 n))) (held-key (one4 (net10 n))) (held-order (one4 (net10 n)) (unfold sound distinct member in refl))
-
 pub full-formed : formed full ≡ true
-full-formed = full-of-formed 1
+full-formed = full-of-formed pipe small 1
 
 pub bare-formed : formed bare ≡ true
-bare-formed = formed-held (heldWith no4) (held-used no4) (held-key no4) (held-order no4 (unfold sound distinct in refl))
+bare-formed = held-formed pipe small no4 (unfold sound distinct in refl)
 
 pub clear-formed : formed clear ≡ true
 clear-formed = formed-none free (unfold free used in refl)
 
-pub full-of-zone : (n : ℕ) → zoneOf (fullOf n) ≡ heldByX (alone (net10 n))
-unfolding alone
-full-of-zone n = held-zone (one4 (net10 n))
-
 pub full-zone : zoneOf full ≡ heldByX oneAddress
-full-zone = full-of-zone 1
+full-zone = full-of-zone pipe small 1
 
 pub bare-zone : zoneOf bare ≡ heldByX nothing
 unfolding member
-bare-zone = held-zone no4
+bare-zone = held-zone pipe small no4
 
 pub clear-zone : zoneOf clear ≡ noNames
 clear-zone = zone-none free (unfold free used in refl)
 
--- The name is spelled alike whatever its addresses are; how; and where there is none nothing is.
-pub held-spelled : (s t : Set4) → spellingOf (oneName (heldWith s)) ≡ spellingOf (oneName (heldWith t))
+-- The name is spelled alike whatever its addresses are, and where there is none nothing is spelled.
+pub held-spelled : (s t : Set4) → spellingOf (oneName (heldWith pipe s)) ≡ spellingOf (oneName (heldWith pipe t))
 unfolding spellingOf withKey heldWith used
 held-spelled s t = refl
-
-pub one-spelled : (s : Set4) (k : Octets) → spellingOf (oneName (heldWith s)) k ≡ cond (sameOctets pipe k) (some (nameOf pipeName)) none
-unfolding spellingOf
-one-spelled s k = unfold withKey others in rw (held-used s, held-key s, with-free spellsAs 63 k) (unfold heldWith in refl)
 
 pub clear-spelled : (k : Octets) → spellingOf clear k ≡ none
 unfolding spellingOf others

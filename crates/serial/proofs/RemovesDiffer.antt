@@ -23,7 +23,7 @@ abbrev z₀ : Zone
 z₀ = heldByX oneAddress
 
 abbrev adds : Arguments
-adds = xAdds 1
+adds = xAdds pipe 1
 
 abbrev both : List Arguments
 both = xRemoves ∷ adds ∷ []

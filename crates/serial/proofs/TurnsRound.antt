@@ -8,10 +8,10 @@ use Prim.Native.Nat.{ℕ}
 use native.Mathlib.Omega.{arith}
 use Rattle.octets.specs.Compare.{sameOctets}
 use Rattle.octets.specs.Count.{Octets, member}
-use Rattle.octets.proofs.CompareLaws.{same-self, same-true}
+use Rattle.octets.proofs.CompareLaws.{same-true}
 use borrow.Table.Steps.{cases}
 use Rattle.addresses.specs.Addresses.{Addresses, nothing, including, excluding}
-use Rattle.dname.specs.Name.{key, sameName}
+use Rattle.dname.specs.Name.{labelsOf, limited, shapeOf, isFull, key, sameName}
 use Rattle.update.specs.Rules as rules
 use Rattle.update.specs.Rules.{Host, heldBy, empty, left, fits, writeB, requestA, requestB, removeAddress, removeName, deleteName, withName, withAddress, withoutAddress}
 use Rattle.update.specs.Meaning.{zoneOf}
@@ -24,26 +24,30 @@ use Rattle.serial.specs.Steps.{going, noJob, oneMore, Steps, start, step
 use Rattle.serial.specs.Order.{sameAnswer, times, Before, nobody, next, Explains}
 use Rattle.serial.specs.Demand.{HeldHaveAddress, OnOneName, Serializable, Story}
 use Rattle.serial.specs.Running.{running}
-use Rattle.serial.specs.Values.{Values, Held}
-use Rattle.serial.specs.P12.{pipe, xDhcid, net10, address1, xPipe, xRemoves, alone, oneAddress, xHost, heldByX, noNames}
-use Rattle.serial.specs.Limits.{xAdds, TurnsRound}
+use Rattle.serial.specs.Values.{areOctets, Values, Held}
+use Rattle.serial.specs.P12.{pipe, xDhcid, net10, address1, xUpdate, xRemoves, alone, oneAddress, xHost, heldByX, noNames}
+use Rattle.serial.specs.Limits.{xAdds, PIPE, TurnsRound}
 use Rattle.serial.proofs.RequestLaws.{state, whole, whole-one, whole-two, whole-sends}
 use Rattle.serial.proofs.OrderLaws.{own-answer, remove-answers}
 use Rattle.serial.proofs.TwoJobs.{two-explain, of-two}
 use Rattle.serial.proofs.Cases.{p12-held}
-use Rattle.serial.proofs.P12Zones.{full, fullOf, bare, clear, full-value, full-of-value, bare-value, clear-value, full-formed, full-zone, full-of-zone}
-use Rattle.serial.proofs.P12Steps.{host-less, host-more, held-over, x-takes, x-deletes}
+use Rattle.serial.proofs.P12Zones.{nameIn, Pipe, full, fullOf, bare, clear, full-value, full-of-value, bare-value, clear-value, full-formed, full-zone, full-of-zone}
+use Rattle.serial.proofs.P12Steps.{host-less, host-more, held-over, pipe-key, x-takes, x-deletes}
 use Rattle.serial.proofs.P12Runs.{meets, next-is, kx, kx₂, new-x, x-first, x-second, x-values}
 use Rattle.serial.proofs.XAdds.{kx⁺, new-x⁺, x-adds, x-adds-anew, x⁺-values}
 
 abbrev adds : Arguments
-adds = xAdds 9
+adds = xAdds PIPE 9
 
 abbrev both : List Arguments
 both = xRemoves ∷ adds ∷ []
 
 abbrev said : List End
 said = gone ∷ done 1 ∷ []
+
+capital : Pipe PIPE
+unfolding nameIn PIPE
+capital = record { is = refl; key = unfold key pipe in refl; full = unfold isFull shapeOf limited labelsOf in refl; size = refl; octets = unfold areOctets in refl }
 
 -- the zone with X's first address, and with its new one
 abbrev before : rules.Zone
@@ -58,7 +62,7 @@ remove-first : whole xRemoves before ≡ state noNames (ended gone)
 remove-first = whole-two xRemoves before beforeFirst (heldByX nothing) noNames beforeSecond gone (unfold fresh xRemoves in refl) x-takes x-deletes
 
 add-second : whole adds noNames ≡ state behind (ended (done 1))
-add-second = whole-one adds noNames (beforeA 0) behind (done 1) (unfold fresh xAdds in refl) (x-adds 9)
+add-second = whole-one adds noNames (beforeA 0) behind (done 1) (unfold fresh xAdds in refl) (x-adds PIPE capital 9)
 
 -- ---- the add first: then the remove leaves the new address
 
@@ -69,13 +73,13 @@ add-first : whole adds before ≡ state (heldByX two) (ended (done 2))
 add-first = whole-two adds before (beforeA 0) before (heldByX two) (beforeB 1) (done 2) (unfold fresh xAdds in refl) asks (found ∙ adds-one)
   where
     asks : step adds before (beforeA 0) ≡ state before (beforeB 1)
-    asks = unfold heldByX xAdds pipe step requestA after sameOctets key in refl
+    asks = unfold heldByX xAdds pipe PIPE step requestA after sameOctets key in refl
 
-    found : step adds before (beforeB 1) ≡ state (withName pipe (withAddress (xPipe (net10 9)) (xHost oneAddress)) before) (ended (done 2))
-    found = unfold heldByX xHost alone xAdds pipe xDhcid step requestB writeB fits left after heldBy sameOctets key member in refl
+    found : step adds before (beforeB 1) ≡ state (withName PIPE (withAddress (xUpdate PIPE (net10 9)) (xHost oneAddress)) before) (ended (done 2))
+    found = unfold heldByX xHost alone xAdds pipe PIPE xDhcid step requestB writeB fits left after heldBy sameOctets key member in refl
 
-    adds-one : state (withName pipe (withAddress (xPipe (net10 9)) (xHost oneAddress)) before) (ended (done 2)) ≡ state (heldByX two) (ended (done 2))
-    adds-one = ap (λ (h : Host). state (withName pipe h before) (ended (done 2))) (host-more (net10 9) oneAddress) ∙ ap (λ (z : rules.Zone). state z (ended (done 2))) (held-over oneAddress two)
+    adds-one : state (withName PIPE (withAddress (xUpdate PIPE (net10 9)) (xHost oneAddress)) before) (ended (done 2)) ≡ state (heldByX two) (ended (done 2))
+    adds-one = ap (λ (h : Host). state (withName PIPE h before) (ended (done 2))) (host-more PIPE (net10 9) oneAddress) ∙ ap (λ (z : rules.Zone). state z (ended (done 2))) (held-over PIPE (capital .key) oneAddress two)
 
 one-left : excluding address1 two ≡ alone (net10 9)
 unfolding including excluding alone member
@@ -93,13 +97,13 @@ one-left = λ i. record { count = count i; has = fun-ext has i }
 remove-second : whole xRemoves (heldByX two) ≡ state behind (ended kept)
 remove-second = whole-two xRemoves (heldByX two) beforeFirst behind behind beforeSecond kept (unfold fresh xRemoves in refl) (found ∙ takes-one) keeps
   where
-    found : step xRemoves (heldByX two) beforeFirst ≡ state (withName pipe (withoutAddress (xPipe address1) (xHost two)) (heldByX two)) beforeSecond
+    found : step xRemoves (heldByX two) beforeFirst ≡ state (withName pipe (withoutAddress (xUpdate pipe address1) (xHost two)) (heldByX two)) beforeSecond
     found = unfold heldByX xHost xRemoves pipe xDhcid step removeAddress afterFirst heldBy sameOctets key in refl
 
-    takes-one : state (withName pipe (withoutAddress (xPipe address1) (xHost two)) (heldByX two)) beforeSecond ≡ state behind beforeSecond
+    takes-one : state (withName pipe (withoutAddress (xUpdate pipe address1) (xHost two)) (heldByX two)) beforeSecond ≡ state behind beforeSecond
     takes-one =
-        ap (λ (h : Host). state (withName pipe h (heldByX two)) beforeSecond) (host-less address1 two ∙ ap xHost one-left)
-        ∙ ap (λ (z : rules.Zone). state z beforeSecond) (held-over two (alone (net10 9)))
+        ap (λ (h : Host). state (withName pipe h (heldByX two)) beforeSecond) (host-less pipe address1 two ∙ ap xHost one-left)
+        ∙ ap (λ (z : rules.Zone). state z beforeSecond) (held-over pipe pipe-key two (alone (net10 9)))
 
     keeps : step xRemoves behind beforeSecond ≡ state behind (ended kept)
     keeps = unfold heldByX xHost alone xRemoves pipe xDhcid step removeName deleteName afterSecond heldBy empty sameOctets key in refl
@@ -132,7 +136,7 @@ turned =
 -- ---- the list
 
 abbrev k : Job
-k = kx⁺ 9
+k = kx⁺ PIPE capital 9
 
 abbrev removed : Job
 removed = atStage kx₂ (ended gone)
@@ -147,27 +151,27 @@ abbrev s₂ : Stepped
 s₂ = record { refusal = 0; zone = clear; job = removed }
 
 abbrev s₃ : Stepped
-s₃ = record { refusal = 0; zone = fullOf 9; job = added }
+s₃ = record { refusal = 0; zone = fullOf PIPE 9; job = added }
 
-unfoldable the-steps : Steps running full (kx ∷ k ∷ []) (fullOf 9) (removed ∷ added ∷ [])
-the-steps = stepped (stepped (stepped start 0 kx s₁ refl (meets x-first) refl) 0 kx₂ s₂ refl (meets x-second) refl) 1 k s₃ refl (meets (x-adds-anew 9)) refl
+unfoldable the-steps : Steps running full (kx ∷ k ∷ []) (fullOf PIPE 9) (removed ∷ added ∷ [])
+the-steps = stepped (stepped (stepped start 0 kx s₁ refl (meets x-first) refl) 0 kx₂ s₂ refl (meets x-second) refl) 1 k s₃ refl (meets (x-adds-anew PIPE capital 9)) refl
 
 removed-is : jobOf removed .stage ≡ ended gone
 removed-is = ap (λ (m : jobs.Job). m .stage) (next-is x-second)
 
 added-is : jobOf added .stage ≡ ended (done 1)
-added-is = ap (λ (m : jobs.Job). m .stage) (next-is (x-adds-anew 9))
+added-is = ap (λ (m : jobs.Job). m .stage) (next-is (x-adds-anew PIPE capital 9))
 
 unfoldable the-list : Story running
 the-list = record {
   arguments = both;
   firstZone = full;
-  lastZone = fullOf 9;
+  lastZone = fullOf PIPE 9;
   firstJobs = kx ∷ k ∷ [];
   lastJobs = removed ∷ added ∷ [];
   ends = said;
   formed = full-formed;
-  freshJobs = oneMore new-x (oneMore (new-x⁺ 9) noJob);
+  freshJobs = oneMore new-x (oneMore (new-x⁺ PIPE capital 9) noJob);
   steps = the-steps;
   allEnded = rw (removed-is, added-is) refl;
 }
@@ -178,11 +182,11 @@ ended-first = inr (refl, refl, record { job = removed; its = refl; over = ap goi
 
 one-name : OnOneName running the-list 0 1
 unfolding the-list
-one-name = record { first = xRemoves; second = adds; isA = refl; isB = refl; same = unfold xRemoves xAdds sameName in same-self (key pipe) }
+one-name = record { first = xRemoves; second = adds; isA = refl; isB = refl; same = unfold xRemoves xAdds sameName pipe PIPE key sameOctets in refl }
 
 -- an order explains the list where it explains what the zones mean
-in-calls : (o : List ℕ) → Explains both said before behind o → Explains both said (zoneOf full) (zoneOf (fullOf 9)) o
-in-calls o x = subst (λ (z : rules.Zone). Explains both said z (zoneOf (fullOf 9)) o) (sym full-zone) (subst (λ (z : rules.Zone). Explains both said before z o) (sym (full-of-zone 9)) x)
+in-calls : (o : List ℕ) → Explains both said before behind o → Explains both said (zoneOf full) (zoneOf (fullOf PIPE 9)) o
+in-calls o x = subst (λ (z : rules.Zone). Explains both said z (zoneOf (fullOf PIPE 9)) o) (sym full-zone) (subst (λ (z : rules.Zone). Explains both said before z o) (sym (full-of-zone PIPE capital 9)) x)
 
 -- ---- the claim
 
@@ -203,7 +207,7 @@ only-seen r = go (of-two xRemoves adds gone (done 1) refl refl (r .explains))
 
 the-values : Held the-steps
 unfolding the-steps Held Values
-the-values = ((((full-value, (x-values .0, (x⁺-values 9 refl .0, tt))), bare-value, x-values .1), clear-value, x-values .2), full-of-value 9 refl, x⁺-values 9 refl .1)
+the-values = ((((full-value, (x-values .0, (x⁺-values PIPE capital 9 refl .0, tt))), bare-value, x-values .1), clear-value, x-values .2), full-of-value PIPE capital 9 refl, x⁺-values PIPE capital 9 refl .1)
 
 pub turns-round : TurnsRound
 unfolding the-list

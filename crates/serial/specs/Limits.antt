@@ -3,6 +3,7 @@ use mathlib.Core.Path.{_≡_}
 use mathlib.Core.Bool.{true}
 use mathlib.Core.List.{List, [], _∷_}
 use Prim.Native.Nat.{ℕ}
+use Rattle.octets.specs.Count.{Octets}
 use Rattle.update.specs.Rules.{Zone, keepOthers}
 use Rattle.update.specs.Meaning.{zoneOf}
 use Rattle.job.specs.Jobs.{add, Arguments, End, done, gone, kept}
@@ -11,22 +12,26 @@ use Rattle.serial.specs.Order.{sameAnswer, StandsOnce, InTurn, nobody, n
 use Rattle.serial.specs.Demand.{HeldHaveAddress, OnOneName, Serializable, Story}
 use Rattle.serial.specs.Running.{running}
 use Rattle.serial.specs.Values.{Held}
-use Rattle.serial.specs.P12.{net10, xPipe, xRemoves}
+use Rattle.serial.specs.P12.{pipe, net10, xUpdate, xRemoves}
 
--- X adds 10.0.0.n.
-unfoldable pub xAdds : ℕ → Arguments
-xAdds n = record { kind = add; update = xPipe (net10 n); policy = keepOthers }
+-- X adds 10.0.0.n to a name.
+unfoldable pub xAdds : Octets → ℕ → Arguments
+xAdds name n = record { kind = add; update = xUpdate name (net10 n); policy = keepOthers }
+
+-- pipe in capital letters.
+unfoldable pub PIPE : Octets
+PIPE = 4 ∷ 80 ∷ 73 ∷ 80 ∷ 69 ∷ 0 ∷ []
 
 -- ---- document 02, n), asks for more than demand 3
 
 -- X leaves and comes back, of the calls that run and with zones and jobs that a program can hold. X has pipe with 10.0.0.1; its remove of that
--- sends both its requests, and then its add of 10.0.0.9 sends one. Two orders explain the list, for the add first and the remove after lead to
+-- sends both its requests, and then its add of 10.0.0.9 to PIPE, which is the same name, sends one. Two orders explain the list, for the add first and the remove after lead to
 -- the same zone, and the add is done. But the remove ended before the add sent its first request, so only one is as players saw it.
 pub record TurnsRound : Type 0 where
   pub story : Story running
   pub values : Held (story .steps)
   pub held : HeldHaveAddress (zoneOf (story .firstZone))
-  pub jobs : story .arguments ≡ xRemoves ∷ xAdds 9 ∷ []
+  pub jobs : story .arguments ≡ xRemoves ∷ xAdds PIPE 9 ∷ []
   pub ends : story .ends ≡ gone ∷ done 1 ∷ []
   pub oneName : OnOneName running story 0 1
   pub endedFirst : EndedFirst running (story .steps) 0 1
@@ -46,7 +51,7 @@ RemovesAgree (next i j e d p q m v t) = (sameAnswer d e ≡ true) × RemovesAgre
 -- answer, wherever they lead.
 pub record RemovesDiffer (C : Calls) : Type 0 where
   pub story : Story C
-  pub jobs : story .arguments ≡ xRemoves ∷ xAdds 1 ∷ []
+  pub jobs : story .arguments ≡ xRemoves ∷ xAdds pipe 1 ∷ []
   pub ends : story .ends ≡ kept ∷ done 2 ∷ []
   pub none : (o : List ℕ) (z : Zone) (t : InTurn (story .arguments) (story .ends) (C .zoneOf (story .firstZone)) o z) → StandsOnce 0 o → StandsOnce 1 o
       → RemovesAgree t → ⊥

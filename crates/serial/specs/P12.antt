@@ -37,11 +37,12 @@ net10 n = 10 ∷ 0 ∷ 0 ∷ n ∷ []
 abbrev pub address1 : Octets
 address1 = net10 1
 
-abbrev pub xPipe : Octets → Update
-xPipe a = record { name = pipe; dhcid = xDhcid; family = four; address = a }
+-- What X asks about a name and an address.
+abbrev pub xUpdate : Octets → Octets → Update
+xUpdate name a = record { name = name; dhcid = xDhcid; family = four; address = a }
 
 unfoldable pub xRemoves : Arguments
-xRemoves = record { kind = remove; update = xPipe address1; policy = keepOthers }
+xRemoves = record { kind = remove; update = xUpdate pipe address1; policy = keepOthers }
 
 unfoldable pub yAdds : Arguments
 yAdds = record { kind = add; update = record { name = pipe; dhcid = yDhcid; family = four; address = net10 2 }; policy = keepOthers }

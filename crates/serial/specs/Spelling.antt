@@ -5,7 +5,6 @@ use mathlib.Core.List.{List, [], _∷_}
 use mathlib.Core.Option.{some}
 use Prim.Native.Nat.{ℕ}
 use Rattle.octets.specs.Count.{Octets}
-use Rattle.addresses.specs.Addresses.{four}
 use Rattle.dname.specs.Name.{key}
 use Rattle.zone.specs.declared.Zone.{Zone}
 use Rattle.update.specs.Rules as rules
@@ -19,7 +18,7 @@ use Rattle.serial.specs.Order.{InTurn, nobody, next, Explains}
 use Rattle.serial.specs.Demand.{Story}
 use Rattle.serial.specs.Running.{running}
 use Rattle.serial.specs.OnOctets.{onOctets}
-use Rattle.serial.specs.P12.{xDhcid, address1}
+use Rattle.serial.specs.P12.{address1, xUpdate}
 
 -- ---- requests
 
@@ -89,15 +88,12 @@ OBOE = 4 ∷ 79 ∷ 66 ∷ 79 ∷ 69 ∷ 0 ∷ []
 unfoldable pub oboe : Octets
 oboe = 4 ∷ 111 ∷ 98 ∷ 111 ∷ 101 ∷ 0 ∷ []
 
-abbrev pub xName : Octets → Update
-xName n = record { name = n; dhcid = xDhcid; family = four; address = address1 }
-
 -- X removes its address from OBOE, and adds it to oboe.
 unfoldable pub xRemovesCapitals : Arguments
-xRemovesCapitals = record { kind = remove; update = xName OBOE; policy = keepOthers }
+xRemovesCapitals = record { kind = remove; update = xUpdate OBOE address1; policy = keepOthers }
 
 unfoldable pub xAddsSmall : Arguments
-xAddsSmall = record { kind = add; update = xName oboe; policy = keepOthers }
+xAddsSmall = record { kind = add; update = xUpdate oboe address1; policy = keepOthers }
 
 -- A list of steps, of which some order explains the end, but none that does spells the name as the list does. X holds OBOE with one address.
 -- X's remove of it takes its first step, X's add of oboe with the same address is done by its request B, and the remove finds an address: the
