@@ -20,7 +20,6 @@ use Rattle.serial.specs.Order.{sameAnswer, times, InTurn, nobody, next, 
 use Rattle.serial.specs.Demand.{Story, HeldHaveAddress, Serializable}
 use Rattle.update.proofs.ZoneLaws.{some≢none}
 use Rattle.serial.proofs.Demand.{stronger, demand3}
-use Rattle.serial.proofs.OrderLaws.{own-answer}
 use Rattle.serial.proofs.TwoJobs.{two-explain, of-two}
 use Rattle.serial.proofs.RequestLaws.{whole, whole-only}
 
@@ -168,7 +167,7 @@ pub p12-order : Explains (xRemoves ∷ yAdds ∷ []) (gone ∷ conflict 2 ∷ []
 unfolding times
 p12-order =
     two-explain xRemoves yAdds gone (conflict 2) refl refl
-    (next 1 yAdds (conflict 2) (conflict 2) refl refl y-conflict (λ k. own-answer (conflict 2)) (next 0 xRemoves gone gone refl refl x-gone (λ k. own-answer gone) nobody))
+    (next 1 yAdds (conflict 2) (conflict 2) refl refl y-conflict (λ k. unfold sameAnswer stageNumber in refl) (next 0 xRemoves gone gone refl refl x-gone (λ k. unfold sameAnswer stageNumber in refl) nobody))
     refl refl
   where
     y-conflict : Sends yAdds z₀ (fresh yAdds) z₀ (conflict 2)

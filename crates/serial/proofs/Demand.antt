@@ -15,7 +15,7 @@ use Rattle.octets.specs.Count.{Octets}
 use Rattle.addresses.specs.Addresses.{four}
 use Rattle.update.specs.Rules.{Zone, Form, keepOthers, Answer, success, NXDOMAIN, YXDOMAIN, YXRRSET, NXRRSET, requestA, fits, requestB, removeAddress, removeName}
 use Rattle.job.specs.Jobs.{Kind, add, remove, Arguments, End, gaveUp, notOurs, gone, kept, Stage, beforeA, beforeB, beforeFirst, beforeSecond, ended, Job, firstStage, fresh, after, passed, afterFirst, afterSecond, step, sent}
-use Rattle.serial.specs.Steps.{Calls, Promises, endAt, going, Fresh, noJob, oneMore, Steps, start, stepped, refused, ownSteps, ChangedNothing, HasEnded, AtFirst, EndedFirst}
+use Rattle.serial.specs.Steps.{Calls, Promises, endAt, going, Fresh, noJob, oneMore, Steps, start, stepped, refused, ownSteps, ChangedNothing, AtFirst, EndedFirst}
 use Rattle.serial.specs.Order.{isLeftOut, times, StandsOnce, In, Before, InTurn, nobody, next, Explains}
 use Rattle.serial.specs.Demand.{Story, AsSeen, Demand3, Stronger, LeftOutIdle}
 use Rattle.update.proofs.ZoneLaws.{address, some≢none, option-case, zone-eq, put-off}
@@ -244,26 +244,23 @@ module _ (C : Calls) (P : Promises C) (js : List Arguments) (z₀ : C .Z) (ks₀
           let t : _≡_ {A = ℕ} (cond (eqb i x && going (C .jobOf j .stage)) 1 0) 1 = rw (eq-eqb i x (sym (n .0)), u) refl in
           absurd (omega arith)
 
-  -- What is seen with a further step, of job i.
-  abbrev Seen : {z : C .Z} {ks : List (C .J)} → Steps C z₀ ks₀ z ks → ℕ → ℕ → ℕ → Type 0
-  Seen {ks = ks} l i a b = EndedFirst C l a b ⊎ ((i ≡ b) × (ownSteps C l b ≡ 0) × HasEnded C a ks)
-
-  -- If it is the first request of i, then i does not stand in the order yet.
-  absorb : {z : C .Z} {ks : List (C .J)} (l : Steps C z₀ ks₀ z ks) (i : ℕ) (k : C .J) → getElem? ks i ≡ some k → (o : List ℕ) → Holds (C .zoneOf z) (stages C js ks) o
-      → Orders (EndedFirst C l) (stages C js ks) o → Orders (Seen l i) (stages C js ks) o
-  absorb {ks = ks} l i k g o v r = record { over = over; order = order }
+  -- A further step, of job i: if it is its first request, then i does not stand in the order yet.
+  absorb : {z : C .Z} {ks : List (C .J)} (l : Steps C z₀ ks₀ z ks) (i : ℕ) (k : C .J) (r : C .R) (g : getElem? ks i ≡ some k) (p : C .Step z k r) (q : C .refusal r ≡ 0) (o : List ℕ)
+      → Holds (C .zoneOf z) (stages C js ks) o → Orders (EndedFirst C l) (stages C js ks) o → Orders (EndedFirst C (stepped l i k r g p q)) (stages C js ks) o
+  unfolding AtFirst
+  absorb {ks = ks} l i k r g p q o v w = record { over = over; order = order }
     where
-      over : (a b : ℕ) → Seen l i a b → Ended (stages C js ks a)
-      over a b (inl x) = r .over a b x
-      over a b (inr m) = subst Ended (sym (stage-is C js ks a (m .2 .job) (m .2 .its))) (is-over (C .jobOf (m .2 .job) .stage) (m .2 .over))
+      over : (a b : ℕ) → EndedFirst C (stepped l i k r g p q) a b → Ended (stages C js ks a)
+      over a b (inl x) = w .over a b x
+      over a b (inr m) = subst Ended (sym (stage-is C js ks a (m .2 .job) (m .2 .its))) (is-over (C .jobOf (m .2 .job) .stage) (m .2 .so))
 
-      order : (a b : ℕ) → Seen l i a b → In a o → In b o → Before a b o
-      order a b (inl x) p q = r .order a b x p q
-      order a b (inr m) p q =
-          let u : 0 < times i o = times-in i o (subst (λ (x : ℕ). In x o) (sym (m .0)) q) in
+      order : (a b : ℕ) → EndedFirst C (stepped l i k r g p q) a b → In a o → In b o → Before a b o
+      order a b (inl x) s t = w .order a b x s t
+      order a b (inr m) s t =
+          let u : 0 < times i o = times-in i o (subst (λ (x : ℕ). In x o) (sym (m .0)) t) in
           let n : ownSteps C l i ≡ 0 = ap (ownSteps C l) (m .0) ∙ m .1 in
-          let t : stands (stages C js ks i) ≡ 0 = ap stands (stage-is C js ks i k g ∙ unsent l i k g n) ∙ fresh-stands (C .jobOf k .arguments) in
-          let w : times i o + times i (v .put-off (key (JJ i .update .name))) ≡ 0 = v .each i ∙ t in
+          let f : stands (stages C js ks i) ≡ 0 = ap stands (stage-is C js ks i k g ∙ unsent l i k g n) ∙ fresh-stands (C .jobOf k .arguments) in
+          let e : times i o + times i (v .put-off (key (JJ i .update .name))) ≡ 0 = v .each i ∙ f in
           absurd (omega arith)
 
   abbrev So : C .Z → List (C .J) → (ℕ → ℕ → Type 0) → Type 0
@@ -298,13 +295,15 @@ module _ (C : Calls) (P : Promises C) (js : List Arguments) (z₀ : C .Z) (ks₀
           ap (stand f i) (ap (λ (x : Arguments). step x (C .zoneOf z) s .stage) is-a ∙ sym (ap (λ (u : Job). u .stage) (P .jobAfter z k r p q)))
           ∙ sym (stages-set C js ks i k (C .job r) g)
 
-      go : So z ks (EndedFirst C l) → So (C .zone r) ks′ (Seen l i)
+      go : So z ks (EndedFirst C l) → So (C .zone r) ks′ (EndedFirst C (stepped l i k r g p q))
       go (m) =
           let n = move JJ (C .zoneOf z₀) g₀ (C .zoneOf z) f (m .0) (m .1) (m .3) i s (stage-is C js ks i k g) in
           let v : Holds (C .zoneOf (C .zone r)) (stages C js ks′) (n .0) =
           subst (λ (x : Zone). Holds x (stages C js ks′) (n .0)) zone-is
           (subst (λ (h : ℕ → Stage). Holds (step (JJ i) (C .zoneOf z) s .zone) h (n .0)) stages-are (n .1)) in
-          let w : Orders (Seen l i) (stages C js ks′) (n .0) = subst (λ (h : ℕ → Stage). Orders (Seen l i) h (n .0)) stages-are (n .2 (Seen l i) (absorb l i k g (m .0) (m .1) (m .2))) in
+          let w : Orders (EndedFirst C (stepped l i k r g p q)) (stages C js ks′) (n .0) =
+          subst (λ (h : ℕ → Stage). Orders (EndedFirst C (stepped l i k r g p q)) h (n .0)) stages-are
+          (n .2 (EndedFirst C (stepped l i k r g p q)) (absorb l i k r g p q (m .0) (m .1) (m .2))) in
           (n .0, v, w, subst Form zone-is (form-step (JJ i) (C .zoneOf z) (m .3) s))
 
   pub counts : {z : C .Z} {ks : List (C .J)} (l : Steps C z₀ ks₀ z ks) (x : ℕ) (k : C .J) → getElem? ks x ≡ some k → Sent (C .jobOf k .stage) (ownSteps C l x)

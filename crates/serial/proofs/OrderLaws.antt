@@ -10,13 +10,8 @@ use lib.Dec.{eqb}
 use borrow.Author.Tests.{eq-eqb, ne-eqb}
 use Rattle.update.specs.Rules.{Zone, Form}
 use Rattle.job.specs.Jobs.{add, remove, Arguments, End, Stage, ended}
-use Rattle.job.specs.Meaning.{stageNumber}
 use Rattle.serial.specs.Order.{sameAnswer, times, In, Before}
 use Rattle.serial.proofs.RequestLaws.{whole, form-whole}
-
-pub own-answer : (e : End) → sameAnswer e e ≡ true
-unfolding sameAnswer
-own-answer e = eq-eqb (stageNumber (ended e)) (stageNumber (ended e)) refl
 
 -- A job ends d in the order, and stands at a stage in the list: if it is an add that has ended there, d is the same answer.
 abbrev pub Answers : Arguments → End → Stage → Type 0

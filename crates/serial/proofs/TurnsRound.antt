@@ -20,7 +20,7 @@ use Rattle.job.specs.Jobs as jobs
 use Rattle.job.specs.Jobs.{add, Arguments, End, done, gone, kept, State, beforeA, beforeB, beforeFirst, beforeSecond, ended, fresh, after, afterFirst, afterSecond, step, Sends}
 use Rattle.job.specs.Meaning.{jobOf, atStage, stageNumber}
 use Rattle.step.specs.declared.Stepped.{Stepped}
-use Rattle.serial.specs.Steps.{going, noJob, oneMore, Steps, start, stepped, ownSteps, HasEnded, AtFirst}
+use Rattle.serial.specs.Steps.{going, noJob, oneMore, Steps, start, stepped, ownSteps, AtFirst, EndedFirst}
 use Rattle.serial.specs.Order.{sameAnswer, times, Before, nobody, next, Explains}
 use Rattle.serial.specs.Demand.{HeldHaveAddress, OnOneName, Serializable, Story}
 use Rattle.serial.specs.Running.{running}
@@ -28,7 +28,7 @@ use Rattle.serial.specs.Values.{areOctets, Values, Held}
 use Rattle.serial.specs.P12.{pipe, xDhcid, net10, address1, xUpdate, xRemoves, alone, oneAddress, xHost, heldByX, noNames}
 use Rattle.serial.specs.Limits.{xAdds, PIPE, TurnsRound}
 use Rattle.serial.proofs.RequestLaws.{state, whole, whole-one, whole-two, whole-sends}
-use Rattle.serial.proofs.OrderLaws.{own-answer, remove-answers}
+use Rattle.serial.proofs.OrderLaws.{remove-answers}
 use Rattle.serial.proofs.TwoJobs.{two-explain, of-two}
 use Rattle.serial.proofs.Cases.{p12-held}
 use Rattle.serial.proofs.P12Zones.{nameIn, Pipe, full, fullOf, bare, clear, full-value, full-of-value, bare-value, clear-value, full-formed, full-zone, full-of-zone}
@@ -122,7 +122,7 @@ unfolding times
 seen =
     two-explain xRemoves adds gone (done 1) refl refl
     (next 0 xRemoves gone gone refl refl (sends-whole xRemoves before noNames gone remove-first) (no-add gone gone)
-    (next 1 adds (done 1) (done 1) refl refl (sends-whole adds noNames behind (done 1) add-second) (λ k. own-answer (done 1)) nobody))
+    (next 1 adds (done 1) (done 1) refl refl (sends-whole adds noNames behind (done 1) add-second) (λ k. unfold sameAnswer stageNumber in refl) nobody))
     refl refl
 
 turned : Explains both said before behind (1 ∷ 0 ∷ [])
@@ -176,9 +176,9 @@ the-list = record {
   allEnded = rw (removed-is, added-is) refl;
 }
 
-ended-first : AtFirst running (HasEnded running 0) the-steps 1
+ended-first : EndedFirst running the-steps 0 1
 unfolding the-steps AtFirst ownSteps
-ended-first = inr (refl, refl, record { job = removed; its = refl; over = ap going removed-is })
+ended-first = inr (refl, refl, record { job = removed; its = refl; so = ap going removed-is })
 
 one-name : OnOneName running the-list 0 1
 unfolding the-list

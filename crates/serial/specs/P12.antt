@@ -98,7 +98,7 @@ pub record Explained (C : Calls) (c : P12 C) : Type 0 where
   pub serial : Serializable C story
   pub yThenX : Explains (xRemoves ∷ yAdds ∷ []) (gone ∷ conflict 2 ∷ []) (C .zoneOf (c .z)) (C .zoneOf (C .zone (c .s₄))) (1 ∷ 0 ∷ [])
   pub noOther : (o : List ℕ) → Explains (xRemoves ∷ yAdds ∷ []) (gone ∷ conflict 2 ∷ []) (C .zoneOf (c .z)) (C .zoneOf (C .zone (c .s₄))) o → o ≡ 1 ∷ 0 ∷ []
-  pub xBegan : AtFirst C (HasBegun C 0) (story .steps) 1
+  pub xBegan : AtFirst C HasBegun (story .steps) 0 1
 
 -- There are such steps, with zones and jobs that a program can hold. X's remove ends gone, Y's add in conflict after two requests, and the
 -- zone at the end has no name.

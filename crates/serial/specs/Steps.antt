@@ -86,25 +86,28 @@ module _ (C : Calls) where
   ChangedNothing (stepped {z = z} l n k r g p q) i = ChangedNothing l i × (n ≡ i → C .zoneOf (C .zone r) ≡ C .zoneOf z)
   ChangedNothing (refused l y k r p q) i = ChangedNothing l i
 
-  -- ---- which of two jobs came first
+-- ---- which of two jobs came first
 
-  -- As the jobs stand, a job has sent a request; it has ended.
-  pub record HasBegun (i : ℕ) (ks : List (C .J)) : Type 0 where
+-- A job has sent a request; it has ended.
+abbrev pub HasBegun : Job → Type 0
+HasBegun k = ¬ (k .stage ≡ fresh (k .arguments))
+
+abbrev pub HasEnded : Job → Type 0
+HasEnded k = going (k .stage) ≡ false
+
+module _ (C : Calls) where
+  -- This holds of job i, as the jobs stand.
+  pub record Stands (P : Job → Type 0) (i : ℕ) (ks : List (C .J)) : Type 0 where
     pub job : C .J
     pub its : getElem? ks i ≡ some job
-    pub begun : ¬ (C .jobOf job .stage ≡ fresh (C .jobOf job .arguments))
+    pub so : P (C .jobOf job)
 
-  pub record HasEnded (i : ℕ) (ks : List (C .J)) : Type 0 where
-    pub job : C .J
-    pub its : getElem? ks i ≡ some job
-    pub over : going (C .jobOf job .stage) ≡ false
-
-  -- This held of the jobs when job b sent its first request: one of the steps is of b, which had sent none before it.
-  unfoldable pub AtFirst : (List (C .J) → Type 0) → {z₀ z : C .Z} {ks₀ ks : List (C .J)} → Steps z₀ ks₀ z ks → ℕ → Type 0
-  AtFirst P start b = ⊥
-  AtFirst P (stepped {ks = ks} l i k r g p q) b = AtFirst P l b ⊎ ((i ≡ b) × (ownSteps l b ≡ 0) × P ks)
-  AtFirst P (refused l y k r p q) b = AtFirst P l b
+  -- This held of job a when job b sent its first request: one of the steps is of b, which had sent none before it.
+  unfoldable pub AtFirst : (Job → Type 0) → {z₀ z : C .Z} {ks₀ ks : List (C .J)} → Steps C z₀ ks₀ z ks → ℕ → ℕ → Type 0
+  AtFirst P start a b = ⊥
+  AtFirst P (stepped {ks = ks} l i k r g p q) a b = AtFirst P l a b ⊎ ((i ≡ b) × (ownSteps C l b ≡ 0) × Stands P a ks)
+  AtFirst P (refused l y k r p q) a b = AtFirst P l a b
 
   -- Job a ended before job b sent its first request.
-  abbrev pub EndedFirst : {z₀ z : C .Z} {ks₀ ks : List (C .J)} → Steps z₀ ks₀ z ks → ℕ → ℕ → Type 0
-  EndedFirst l a b = AtFirst (HasEnded a) l b
+  abbrev pub EndedFirst : {z₀ z : C .Z} {ks₀ ks : List (C .J)} → Steps C z₀ ks₀ z ks → ℕ → ℕ → Type 0
+  EndedFirst l a b = AtFirst HasEnded l a b
