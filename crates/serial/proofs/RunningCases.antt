@@ -19,7 +19,7 @@ use Rattle.step.specs.declared.lent.StepAnswer.{StepAnswer}
 use Rattle.step.specs.Promise.{StepPromise}
 use Rattle.step.specs.Lent.{StepPromiseIn}
 use Rattle.serial.specs.P12.{xRemoves, yAdds, oneAddress, heldByX, P12, Explained}
-use Rattle.serial.specs.Steps.{Calls, Promises, noJob, oneMore, start, stepped, ownSteps, HasBegun, Stands, AtFirst}
+use Rattle.serial.specs.Steps.{Calls, Promises, noJob, oneMore, start, stepped, ownSteps, HasBegun, HoldsOf, AtFirst}
 use Rattle.serial.specs.Order.{Explains}
 use Rattle.serial.specs.Demand.{HeldHaveAddress, Story}
 use Rattle.serial.specs.Running.{NewCall, running}
@@ -108,7 +108,7 @@ module _ (C : Calls) (P : Promises C) where
         p12-no-other (C .zoneOf (C .zone (c .s₄))) o
         (subst (λ (u : rules.Zone). Explains (xRemoves ∷ yAdds ∷ []) (gone ∷ conflict 2 ∷ []) u (C .zoneOf (C .zone (c .s₄))) o) (c .held) x)
 
-    x-began : Stands C HasBegun 0 (C .job (c .s₁) ∷ c .ky ∷ [])
+    x-began : HoldsOf C HasBegun 0 (C .job (c .s₁) ∷ c .ky ∷ [])
     x-began = record {
       job = C .job (c .s₁);
       its = refl;
@@ -122,6 +122,8 @@ module _ (C : Calls) (P : Promises C) where
       story = p12-story;
       zones = (refl, refl);
       jobs = (refl, refl);
+      asked = refl;
+      ends = refl;
       serial = demand3 C P p12-story (subst HeldHaveAddress (sym (c .held)) p12-held);
       yThenX = y-then-x;
       noOther = no-other;

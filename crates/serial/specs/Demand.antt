@@ -42,12 +42,16 @@ module _ (C : Calls) (s : Story C) where
   abbrev pub AsSeen : List ℕ → ℕ → ℕ → Type 0
   AsSeen o a b = EndedFirst C (s .steps) a b → StandsOnce a o → StandsOnce b o → Before a b o
 
+  -- An order that fits: it explains the list, from its first zone to its last.
+  abbrev pub Fitting : List ℕ → Type 0
+  Fitting o = Explains (s .arguments) (s .ends) (C .zoneOf (s .firstZone)) (C .zoneOf (s .lastZone)) o
+
   -- ---- the claim
 
   pub record Serializable : Type 0 where
     -- demand 3: some order of all jobs but those left out leads from the same zone to the same zone, and every add gets the same answer
     pub order : List ℕ
-    pub explains : Explains (s .arguments) (s .ends) (C .zoneOf (s .firstZone)) (C .zoneOf (s .lastZone)) order
+    pub explains : Fitting order
     -- n): in that order, of two jobs on the same name, one that ended before the other sent its first request stands before it
     pub asSeen : (a b : ℕ) → OnOneName a b → AsSeen order a b
     -- the count that an add reports is the number of its own steps up to its end

@@ -8,8 +8,8 @@ use Rattle.update.specs.Rules.{Zone, keepOthers}
 use Rattle.update.specs.Meaning.{zoneOf}
 use Rattle.job.specs.Jobs.{add, Arguments, End, done, gone, kept}
 use Rattle.serial.specs.Steps.{Calls, EndedFirst}
-use Rattle.serial.specs.Order.{sameAnswer, StandsOnce, InTurn, nobody, next, Explains}
-use Rattle.serial.specs.Demand.{HeldHaveAddress, OnOneName, Serializable, Story}
+use Rattle.serial.specs.Order.{sameAnswer, StandsOnce, InTurn, nobody, next}
+use Rattle.serial.specs.Demand.{Story, HeldHaveAddress, OnOneName, Fitting, Serializable}
 use Rattle.serial.specs.Running.{running}
 use Rattle.serial.specs.Values.{Held}
 use Rattle.serial.specs.P12.{pipe, net10, xUpdate, xRemoves}
@@ -25,8 +25,9 @@ PIPE = 4 ∷ 80 ∷ 73 ∷ 80 ∷ 69 ∷ 0 ∷ []
 -- ---- document 02, n), asks for more than demand 3
 
 -- X leaves and comes back, of the calls that run and with zones and jobs that a program can hold. X has pipe with 10.0.0.1; its remove of that
--- sends both its requests, and then its add of 10.0.0.9 to PIPE, which is the same name, sends one. Two orders explain the list, for the add first and the remove after lead to
--- the same zone, and the add is done. But the remove ended before the add sent its first request, so only one is as players saw it.
+-- sends both its requests, and then its add of 10.0.0.9 to PIPE, which is the same name, sends one. Two orders fit, for the add first and the
+-- remove after lead to the same zone, and the add is done. But the remove ended before the add sent its first request, so only one is as
+-- players saw it.
 pub record TurnsRound : Type 0 where
   pub story : Story running
   pub values : Held (story .steps)
@@ -35,8 +36,8 @@ pub record TurnsRound : Type 0 where
   pub ends : story .ends ≡ gone ∷ done 1 ∷ []
   pub oneName : OnOneName running story 0 1
   pub endedFirst : EndedFirst running (story .steps) 0 1
-  pub seen : Explains (story .arguments) (story .ends) (zoneOf (story .firstZone)) (zoneOf (story .lastZone)) (0 ∷ 1 ∷ [])
-  pub turned : Explains (story .arguments) (story .ends) (zoneOf (story .firstZone)) (zoneOf (story .lastZone)) (1 ∷ 0 ∷ [])
+  pub seen : Fitting running story (0 ∷ 1 ∷ [])
+  pub turned : Fitting running story (1 ∷ 0 ∷ [])
   pub onlySeen : (r : Serializable running story) → r .order ≡ 0 ∷ 1 ∷ []
 
 -- ---- the answers of removes can't be asked for

@@ -23,7 +23,7 @@ isLeftOut notOurs = false
 isLeftOut gone = false
 isLeftOut kept = false
 
--- Two ends are the same answer where they have the same number, whatever the counts of adds.
+-- Two ends are the same answer where a job that ended so has the same number: both done, for example, or both in conflict. Counts may differ.
 unfoldable pub sameAnswer : End → End → Bool
 sameAnswer d e = eqb (stageNumber (ended d)) (stageNumber (ended e))
 

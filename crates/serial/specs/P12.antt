@@ -12,8 +12,7 @@ use Rattle.update.specs.Rules as rules
 use Rattle.update.specs.Rules.{Host, Update, keepOthers}
 use Rattle.job.specs.Jobs.{add, remove, Arguments, conflict, gone, ended}
 use Rattle.serial.specs.Steps.{Calls, HasBegun, AtFirst}
-use Rattle.serial.specs.Order.{Explains}
-use Rattle.serial.specs.Demand.{Story, Serializable}
+use Rattle.serial.specs.Demand.{Story, Fitting, Serializable}
 use Rattle.serial.specs.Running.{running}
 use Rattle.serial.specs.OnOctets.{onOctets}
 use Rattle.serial.specs.Values.{ZoneValue, LentValue, JobValue}
@@ -89,15 +88,17 @@ pub record P12 (C : Calls) : Type 0 where
 
 -- ---- the claim
 
--- Such steps are a list that demand 3 speaks of and holds of, and Y first and X after is an order that explains it. No other does, though X sent
--- its first request before Y: jobs can't be asked to stand in the order of their first requests.
+-- Such steps are a list that demand 3 speaks of and holds of. Y first and X after is an order that fits, and no other does, though X sent its first
+-- request before Y: jobs can't be asked to stand in the order of their first requests.
 pub record Explained (C : Calls) (c : P12 C) : Type 0 where
   pub story : Story C
   pub zones : (story .firstZone ≡ c .z) × (story .lastZone ≡ C .zone (c .s₄))
   pub jobs : (story .firstJobs ≡ c .kx ∷ c .ky ∷ []) × (story .lastJobs ≡ C .job (c .s₄) ∷ C .job (c .s₃) ∷ [])
+  pub asked : story .arguments ≡ xRemoves ∷ yAdds ∷ []
+  pub ends : story .ends ≡ gone ∷ conflict 2 ∷ []
   pub serial : Serializable C story
-  pub yThenX : Explains (xRemoves ∷ yAdds ∷ []) (gone ∷ conflict 2 ∷ []) (C .zoneOf (c .z)) (C .zoneOf (C .zone (c .s₄))) (1 ∷ 0 ∷ [])
-  pub noOther : (o : List ℕ) → Explains (xRemoves ∷ yAdds ∷ []) (gone ∷ conflict 2 ∷ []) (C .zoneOf (c .z)) (C .zoneOf (C .zone (c .s₄))) o → o ≡ 1 ∷ 0 ∷ []
+  pub yThenX : Fitting C story (1 ∷ 0 ∷ [])
+  pub noOther : (o : List ℕ) → Fitting C story o → o ≡ 1 ∷ 0 ∷ []
   pub xBegan : AtFirst C HasBegun (story .steps) 0 1
 
 -- There are such steps, with zones and jobs that a program can hold. X's remove ends gone, Y's add in conflict after two requests, and the

@@ -14,8 +14,8 @@ use Rattle.update.specs.Spelling.{Spelling, spellingOf, respelled}
 use Rattle.lentzone.specs.Decode.{zoneIn}
 use Rattle.job.specs.Jobs.{add, remove, Arguments, End, done, kept, Stage, step, Sends, hasEnded, sends}
 use Rattle.serial.specs.Steps.{Calls, Steps, start, stepped, refused}
-use Rattle.serial.specs.Order.{InTurn, nobody, next, Explains}
-use Rattle.serial.specs.Demand.{Story}
+use Rattle.serial.specs.Order.{InTurn, nobody, next}
+use Rattle.serial.specs.Demand.{Story, Fitting}
 use Rattle.serial.specs.Running.{running}
 use Rattle.serial.specs.OnOctets.{onOctets}
 use Rattle.serial.specs.P12.{address1, xUpdate}
@@ -106,6 +106,6 @@ pub record SpellsOtherwise (C : Calls) : Type 0 where
   pub first : Spelling
   pub held : first (key oboe) ≡ some OBOE
   pub byList : spelledBySteps C (story .steps) first (key oboe) ≡ some OBOE
-  pub fits : Explains (story .arguments) (story .ends) (C .zoneOf (story .firstZone)) (C .zoneOf (story .lastZone)) (0 ∷ 1 ∷ [])
-  pub byOrder : (o : List ℕ) (e : Explains (story .arguments) (story .ends) (C .zoneOf (story .firstZone)) (C .zoneOf (story .lastZone)) o)
+  pub fits : Fitting C story (0 ∷ 1 ∷ [])
+  pub byOrder : (o : List ℕ) (e : Fitting C story o)
       → spelledInTurn (e .inTurn) first (key oboe) ≡ some oboe

@@ -88,7 +88,7 @@ module _ (C : Calls) where
 
 -- ---- which of two jobs came first
 
--- A job has sent a request; it has ended.
+-- A job has sent a request, as its stage is no longer that of a fresh job; it has ended.
 abbrev pub HasBegun : Job → Type 0
 HasBegun k = ¬ (k .stage ≡ fresh (k .arguments))
 
@@ -97,7 +97,7 @@ HasEnded k = going (k .stage) ≡ false
 
 module _ (C : Calls) where
   -- This holds of job i, as the jobs stand.
-  pub record Stands (P : Job → Type 0) (i : ℕ) (ks : List (C .J)) : Type 0 where
+  pub record HoldsOf (P : Job → Type 0) (i : ℕ) (ks : List (C .J)) : Type 0 where
     pub job : C .J
     pub its : getElem? ks i ≡ some job
     pub so : P (C .jobOf job)
@@ -105,7 +105,7 @@ module _ (C : Calls) where
   -- This held of job a when job b sent its first request: one of the steps is of b, which had sent none before it.
   unfoldable pub AtFirst : (Job → Type 0) → {z₀ z : C .Z} {ks₀ ks : List (C .J)} → Steps C z₀ ks₀ z ks → ℕ → ℕ → Type 0
   AtFirst P start a b = ⊥
-  AtFirst P (stepped {ks = ks} l i k r g p q) a b = AtFirst P l a b ⊎ ((i ≡ b) × (ownSteps C l b ≡ 0) × Stands P a ks)
+  AtFirst P (stepped {ks = ks} l i k r g p q) a b = AtFirst P l a b ⊎ ((i ≡ b) × (ownSteps C l b ≡ 0) × HoldsOf P a ks)
   AtFirst P (refused l y k r p q) a b = AtFirst P l a b
 
   -- Job a ended before job b sent its first request.
