@@ -13,8 +13,7 @@ use Rattle.job.specs.Meaning.{jobOf, atStage, stageNumber, stageCount}
 use Rattle.serial.specs.Steps.{Fresh, noJob, oneMore, start, ownSteps}
 use Rattle.serial.specs.Running.{running}
 use Rattle.serial.specs.Values.{areOctets, Values, Held}
-use Rattle.serial.specs.Limits.{xAdds}
-use Rattle.serial.specs.P12.{pipe, xRemoves, yAdds}
+use Rattle.serial.specs.P12.{pipe, xRemoves, xAdds, yAdds}
 use Rattle.serial.proofs.Running.{taken}
 use Rattle.serial.proofs.P12Zones.{small, full, clear, full-value, full-formed}
 use Rattle.serial.proofs.P12Runs.{kx, ky, new-x, new-y, y-is, x-values, y-values}

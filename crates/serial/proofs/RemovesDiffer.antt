@@ -13,8 +13,8 @@ use Rattle.job.specs.Jobs.{Arguments, End, done, gone, kept, ended, fresh, afte
 use Rattle.job.specs.Meaning.{stageNumber}
 use Rattle.serial.specs.Order.{sameAnswer, StandsOnce, InTurn, next}
 use Rattle.serial.specs.Demand.{Story}
-use Rattle.serial.specs.P12.{pipe, xDhcid, xRemoves, alone, oneAddress, xHost, heldByX}
-use Rattle.serial.specs.Limits.{xAdds, RemovesAgree, RemovesDiffer}
+use Rattle.serial.specs.P12.{pipe, xDhcid, xRemoves, alone, oneAddress, xHost, heldByX, xAdds}
+use Rattle.serial.specs.Limits.{RemovesAgree, RemovesDiffer}
 use Rattle.serial.proofs.RequestLaws.{whole, whole-only}
 use Rattle.serial.proofs.TwoJobs.{two-orders}
 use Rattle.serial.proofs.Cases.{byRule, form-pipe, r₃, r₄, between}

@@ -17,8 +17,8 @@ use Rattle.job.specs.Jobs.{Arguments, End, done, gone, Stage, ended, fresh, aft
 use Rattle.serial.specs.Steps.{going}
 use Rattle.serial.specs.Order.{InTurn, nobody, next, Explains}
 use Rattle.serial.specs.Demand.{Story, Serializable}
-use Rattle.serial.specs.P12.{xDhcid, alone, oneAddress, xHost, heldAt}
-use Rattle.serial.specs.Spelling.{spelledBySteps, spelledByJob, spelledInTurn, OBOE, oboe, xRemovesCapitals, xAddsSmall, SpellsOtherwise}
+use Rattle.serial.specs.P12.{xDhcid, alone, oneAddress, xHost, heldAt, xAdds}
+use Rattle.serial.specs.Spelling.{spelledBySteps, spelledByJob, spelledInTurn, OBOE, oboe, xRemovesCapitals, SpellsOtherwise}
 use Rattle.serial.proofs.KeepsOctets.{respelled-there, respelled-idle}
 use Rattle.serial.proofs.Cases.{byRule, by-rule, form-one, r₃, r₄, between}
 use Rattle.serial.proofs.Demand.{stronger}
@@ -76,7 +76,7 @@ abbrev removes : Arguments
 removes = xRemovesCapitals
 
 abbrev adds : Arguments
-adds = xAddsSmall
+adds = xAdds oboe 1
 
 abbrev both : List Arguments
 both = removes ∷ adds ∷ []
@@ -88,14 +88,14 @@ abbrev last : Zone
 last = r₄ z₀ removes adds .zone
 
 the-ends : (r₄ z₀ removes adds .job .stage ≡ ended jobs.kept) × (r₃ z₀ removes adds .job .stage ≡ ended (done 2))
-unfolding xRemovesCapitals xAddsSmall OBOE oboe xHost xDhcid alone step fresh requestA requestB removeAddress deleteName removeName writeB fits left after afterFirst afterSecond heldBy sameOctets key newHost withAddress withoutAddress with including excluding withName withoutName empty member
+unfolding xRemovesCapitals xAdds OBOE oboe xHost xDhcid alone step fresh requestA requestB removeAddress deleteName removeName writeB fits left after afterFirst afterSecond heldBy sameOctets key newHost withAddress withoutAddress with including excluding withName withoutName empty member
 the-ends = (refl, refl)
 
 unfoldable the-list : Story byRule
 the-list = between z₀ removes adds (form-one oboe) jobs.kept (done 2) (the-ends .0) (the-ends .1)
 
 stands-last : there (last .at (key oboe)) ≡ true
-unfolding xRemovesCapitals xAddsSmall OBOE oboe xHost xDhcid alone step fresh requestA requestB removeAddress deleteName removeName writeB fits left after afterFirst afterSecond heldBy sameOctets key newHost withAddress withoutAddress with including excluding withName withoutName empty member
+unfolding xRemovesCapitals xAdds OBOE oboe xHost xDhcid alone step fresh requestA requestB removeAddress deleteName removeName writeB fits left after afterFirst afterSecond heldBy sameOctets key newHost withAddress withoutAddress with including excluding withName withoutName empty member
 stands-last = refl
 
 unfoldable spelled-first : Spelling
@@ -107,12 +107,12 @@ removed : Zone
 removed = whole removes z₀ .zone
 
 remove-spelled : (y : Zone) (d : End) (m : Sends removes z₀ (fresh removes) y d) (sp : Spelling) → (spelledByJob m sp (key oboe) ≡ none) × (removed ≡ y)
-unfolding respelled removed whole xRemovesCapitals xAddsSmall OBOE oboe xHost xDhcid alone step fresh requestA requestB removeAddress deleteName removeName writeB fits left after afterFirst afterSecond heldBy sameOctets key newHost withAddress withoutAddress with including excluding withName withoutName empty member
+unfolding respelled removed whole xRemovesCapitals xAdds OBOE oboe xHost xDhcid alone step fresh requestA requestB removeAddress deleteName removeName writeB fits left after afterFirst afterSecond heldBy sameOctets key newHost withAddress withoutAddress with including excluding withName withoutName empty member
 remove-spelled y d m sp =
     (two-spelled removes (key oboe) z₀ Stage.beforeFirst refl sp y d gone m refl refl, whole-only removes z₀ y d gone refl m .0)
 
 add-spelled : (w : Zone) (d : End) (m : Sends adds removed (fresh adds) w d) (sp : Spelling) → sp (key oboe) ≡ none → spelledByJob m sp (key oboe) ≡ some oboe
-unfolding respelled removed whole xRemovesCapitals xAddsSmall OBOE oboe xHost xDhcid alone step fresh requestA requestB removeAddress deleteName removeName writeB fits left after afterFirst afterSecond heldBy sameOctets key newHost withAddress withoutAddress with including excluding withName withoutName empty member
+unfolding respelled removed whole xRemovesCapitals xAdds OBOE oboe xHost xDhcid alone step fresh requestA requestB removeAddress deleteName removeName writeB fits left after afterFirst afterSecond heldBy sameOctets key newHost withAddress withoutAddress with including excluding withName withoutName empty member
 add-spelled w d m sp e = one-spelled adds (key oboe) removed (Stage.beforeA 0) refl sp w d (done 1) m refl ∙ ap (λ (o : Option Octets). some (kept oboe o)) e
 
 -- ---- the add first: then the remove deletes the name
@@ -121,11 +121,11 @@ added : Zone
 added = whole adds z₀ .zone
 
 add-first : (y : Zone) (d : End) → Sends adds z₀ (fresh adds) y d → added ≡ y
-unfolding added whole xRemovesCapitals xAddsSmall OBOE oboe xHost xDhcid alone step fresh requestA requestB removeAddress deleteName removeName writeB fits left after afterFirst afterSecond heldBy sameOctets key newHost withAddress withoutAddress with including excluding withName withoutName empty member
+unfolding added whole xRemovesCapitals xAdds OBOE oboe xHost xDhcid alone step fresh requestA requestB removeAddress deleteName removeName writeB fits left after afterFirst afterSecond heldBy sameOctets key newHost withAddress withoutAddress with including excluding withName withoutName empty member
 add-first y d m = whole-only adds z₀ y d (done 2) refl m .0
 
 remove-second : (w : Zone) (d : End) → Sends removes added (fresh removes) w d → w .at (key oboe) ≡ none
-unfolding added whole xRemovesCapitals xAddsSmall OBOE oboe xHost xDhcid alone step fresh requestA requestB removeAddress deleteName removeName writeB fits left after afterFirst afterSecond heldBy sameOctets key newHost withAddress withoutAddress with including excluding withName withoutName empty member
+unfolding added whole xRemovesCapitals xAdds OBOE oboe xHost xDhcid alone step fresh requestA requestB removeAddress deleteName removeName writeB fits left after afterFirst afterSecond heldBy sameOctets key newHost withAddress withoutAddress with including excluding withName withoutName empty member
 remove-second w d m = ap (λ (x : Zone). x .at (key oboe)) (sym (whole-only removes added w d gone refl m .0))
 
 -- ---- every order that explains the list
@@ -162,7 +162,7 @@ by-order o e sp = go (of-two removes adds jobs.kept (done 2) refl refl e) (e .in
 -- ---- the claim
 
 by-list : spelledBySteps byRule (the-list .steps) spelled-first (key oboe) ≡ some OBOE
-unfolding the-list between byRule spelledBySteps spelled-first respelled xRemovesCapitals xAddsSmall OBOE oboe xHost xDhcid alone step fresh requestA requestB removeAddress deleteName removeName writeB fits left after afterFirst afterSecond heldBy sameOctets key newHost withAddress withoutAddress with including excluding withName withoutName empty member
+unfolding the-list between byRule spelledBySteps spelled-first respelled xRemovesCapitals xAdds OBOE oboe xHost xDhcid alone step fresh requestA requestB removeAddress deleteName removeName writeB fits left after afterFirst afterSecond heldBy sameOctets key newHost withAddress withoutAddress with including excluding withName withoutName empty member
 by-list = refl
 
 held-first : spelled-first (key oboe) ≡ some OBOE
@@ -183,5 +183,6 @@ spells-otherwise = record {
   held = held-first;
   byList = by-list;
   fits = subst (λ (o : List ℕ). Explains both said z₀ last o) (by-order (serial .order) (serial .explains) spelled-first .0) (serial .explains);
+  noOther = λ o e. by-order o e spelled-first .0;
   byOrder = λ o e. by-order o e spelled-first .1;
 }

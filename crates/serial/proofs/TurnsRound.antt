@@ -25,8 +25,8 @@ use Rattle.serial.specs.Order.{sameAnswer, times, Before, nobody, next, 
 use Rattle.serial.specs.Demand.{HeldHaveAddress, OnOneName, Serializable, Story}
 use Rattle.serial.specs.Running.{running}
 use Rattle.serial.specs.Values.{areOctets, Values, Held}
-use Rattle.serial.specs.P12.{pipe, xDhcid, net10, address1, xUpdate, xRemoves, alone, oneAddress, xHost, heldByX, noNames}
-use Rattle.serial.specs.Limits.{xAdds, PIPE, TurnsRound}
+use Rattle.serial.specs.P12.{pipe, xDhcid, net10, address1, xUpdate, xRemoves, alone, oneAddress, xHost, heldByX, noNames, xAdds}
+use Rattle.serial.specs.Limits.{PIPE, TurnsRound}
 use Rattle.serial.proofs.RequestLaws.{state, whole, whole-one, whole-two, whole-sends}
 use Rattle.serial.proofs.OrderLaws.{remove-answers}
 use Rattle.serial.proofs.TwoJobs.{two-explain, of-two}

@@ -21,8 +21,7 @@ use Rattle.job.specs.Promise.{newRefusal, newJob}
 use Rattle.request.specs.Inner.{Spells}
 use Rattle.update.proofs.ZoneLaws.{some≢none}
 use Rattle.serial.specs.Values.{areOctets, JobValue}
-use Rattle.serial.specs.P12.{pipe, xDhcid, net10, xUpdate, alone, heldByX, noNames}
-use Rattle.serial.specs.Limits.{xAdds}
+use Rattle.serial.specs.P12.{pipe, xDhcid, net10, xUpdate, alone, heldByX, noNames, xAdds}
 use Rattle.serial.specs.Running.{NewCall, newAdd}
 use Rattle.serial.proofs.Running.{kept-promises, taken}
 use Rattle.serial.proofs.OneName.{one4}

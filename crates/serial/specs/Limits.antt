@@ -4,19 +4,15 @@ use mathlib.Core.Bool.{true}
 use mathlib.Core.List.{List, [], _∷_}
 use Prim.Native.Nat.{ℕ}
 use Rattle.octets.specs.Count.{Octets}
-use Rattle.update.specs.Rules.{Zone, keepOthers}
+use Rattle.update.specs.Rules.{Zone}
 use Rattle.update.specs.Meaning.{zoneOf}
-use Rattle.job.specs.Jobs.{add, Arguments, End, done, gone, kept}
+use Rattle.job.specs.Jobs.{Arguments, End, done, gone, kept}
 use Rattle.serial.specs.Steps.{Calls, EndedFirst}
 use Rattle.serial.specs.Order.{sameAnswer, StandsOnce, InTurn, nobody, next}
 use Rattle.serial.specs.Demand.{Story, HeldHaveAddress, OnOneName, Fitting, Serializable}
 use Rattle.serial.specs.Running.{running}
 use Rattle.serial.specs.Values.{Held}
-use Rattle.serial.specs.P12.{pipe, net10, xUpdate, xRemoves}
-
--- X adds 10.0.0.n to a name.
-unfoldable pub xAdds : Octets → ℕ → Arguments
-xAdds name n = record { kind = add; update = xUpdate name (net10 n); policy = keepOthers }
+use Rattle.serial.specs.P12.{pipe, xRemoves, xAdds}
 
 -- pipe in capital letters.
 unfoldable pub PIPE : Octets

@@ -43,6 +43,10 @@ xUpdate name a = record { name = name; dhcid = xDhcid; family = four; address = 
 unfoldable pub xRemoves : Arguments
 xRemoves = record { kind = remove; update = xUpdate pipe address1; policy = keepOthers }
 
+-- X adds 10.0.0.n to a name.
+unfoldable pub xAdds : Octets → ℕ → Arguments
+xAdds name n = record { kind = add; update = xUpdate name (net10 n); policy = keepOthers }
+
 unfoldable pub yAdds : Arguments
 yAdds = record { kind = add; update = record { name = pipe; dhcid = yDhcid; family = four; address = net10 2 }; policy = keepOthers }
 

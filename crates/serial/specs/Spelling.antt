@@ -12,13 +12,13 @@ use Rattle.update.specs.Rules.{there, Update, Policy, keepOthers, Outcome, succ
 use Rattle.update.specs.Meaning.{zoneOf}
 use Rattle.update.specs.Spelling.{Spelling, spellingOf, respelled}
 use Rattle.lentzone.specs.Decode.{zoneIn}
-use Rattle.job.specs.Jobs.{add, remove, Arguments, End, done, kept, Stage, step, Sends, hasEnded, sends}
+use Rattle.job.specs.Jobs.{remove, Arguments, End, done, kept, Stage, step, Sends, hasEnded, sends}
 use Rattle.serial.specs.Steps.{Calls, Steps, start, stepped, refused}
 use Rattle.serial.specs.Order.{InTurn, nobody, next}
 use Rattle.serial.specs.Demand.{Story, Fitting}
 use Rattle.serial.specs.Running.{running}
 use Rattle.serial.specs.OnOctets.{onOctets}
-use Rattle.serial.specs.P12.{address1, xUpdate}
+use Rattle.serial.specs.P12.{address1, xUpdate, xAdds}
 
 -- ---- requests
 
@@ -88,24 +88,22 @@ OBOE = 4 ∷ 79 ∷ 66 ∷ 79 ∷ 69 ∷ 0 ∷ []
 unfoldable pub oboe : Octets
 oboe = 4 ∷ 111 ∷ 98 ∷ 111 ∷ 101 ∷ 0 ∷ []
 
--- X removes its address from OBOE, and adds it to oboe.
+-- X removes its address from OBOE.
 unfoldable pub xRemovesCapitals : Arguments
 xRemovesCapitals = record { kind = remove; update = xUpdate OBOE address1; policy = keepOthers }
 
-unfoldable pub xAddsSmall : Arguments
-xAddsSmall = record { kind = add; update = xUpdate oboe address1; policy = keepOthers }
-
--- A list of steps, of which some order explains the end, but none that does spells the name as the list does. X holds OBOE with one address.
--- X's remove of it takes its first step, X's add of oboe with the same address is done by its request B, and the remove finds an address: the
--- name is kept, and keeps its octets. Whole, the remove has to go first, since the name stands at the end; so it deletes the name, and the
--- add writes a new one.
+-- A list of steps that one order fits, and that order does not spell the name as the list does. X holds OBOE with one address. X's remove of it
+-- takes its first step, X's add of oboe with the same address is done by its request B, and the remove finds an address: the name is kept, and
+-- keeps its octets. Whole, the remove has to go first, since the name stands at the end; so it deletes the name, and the add writes a new one.
+-- The remove goes first though it ended last: jobs can't be asked to stand in the order of their ends.
 pub record SpellsOtherwise (C : Calls) : Type 0 where
   pub story : Story C
-  pub jobs : story .arguments ≡ xRemovesCapitals ∷ xAddsSmall ∷ []
+  pub jobs : story .arguments ≡ xRemovesCapitals ∷ xAdds oboe 1 ∷ []
   pub ends : story .ends ≡ kept ∷ done 2 ∷ []
   pub first : Spelling
   pub held : first (key oboe) ≡ some OBOE
   pub byList : spelledBySteps C (story .steps) first (key oboe) ≡ some OBOE
   pub fits : Fitting C story (0 ∷ 1 ∷ [])
+  pub noOther : (o : List ℕ) → Fitting C story o → o ≡ 0 ∷ 1 ∷ []
   pub byOrder : (o : List ℕ) (e : Fitting C story o)
       → spelledInTurn (e .inTurn) first (key oboe) ≡ some oboe
