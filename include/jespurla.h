@@ -625,7 +625,8 @@ typedef struct {
  * What changes is what the request changes, as above. Of all the steps together: however the steps
  * of any jobs are mixed, some order of the whole jobs, adds without room and those that gave up
  * left out, ends with the same names, owners and addresses and the same answer to every add: the
- * jobs are serializable (docs/DEMAND-3.md). That order may leave a name in other letters.
+ * jobs are serializable (docs/DEMAND-3.md). In that order a job that ended before another sent its
+ * first request stands before it. The order may leave a name in other letters.
  */
 jespurla_step_answer jespurla_job_step_lent(jespurla_zone *zone, size_t length, jespurla_job job);
 

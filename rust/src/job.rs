@@ -10,8 +10,9 @@ use crate::{raw, Dhcid, Family, Name, Policy, Refusal, Stage, Zone};
 /// A job: an add gives a name an address, a remove takes an address away, and the name with the
 /// last one. It sends its requests one step at a time, and the steps of several boxes may be mixed
 /// on one zone in any way: some order of the whole jobs, adds without room and those that gave up
-/// left out, ends with the same names, owners and addresses and the same answer to every add. That
-/// order may leave a name in other letters.
+/// left out, ends with the same names, owners and addresses and the same answer to every add. In
+/// that order a job that ended before another sent its first request stands before it. The order
+/// may leave a name in other letters.
 ///
 /// A step takes the job and hands back the next one, so that no job is stepped twice from one
 /// stage.
