@@ -20,7 +20,7 @@ use common::tally::Tally;
 use common::twin::Twin;
 use common::zones::again;
 use second::job::{self, Job};
-use second::zone::{as_set, Zone, HELD};
+use second::zone::{as_set, Name, Zone, HELD};
 
 /// Lists run by one run, at the least; two runs are made.
 const LISTS: usize = 14_000;
@@ -498,14 +498,17 @@ fn fixed(way: Way, jobs: &[Request], steps: &[Leads]) -> Ended {
     Ended::new(list, &start, jobs)
 }
 
-/// X's remove deletes the name and X's add brings it back with another address.
-/// The other way round the end would be the same.
+/// X's remove deletes the name and X's add brings it back, in capital letters and
+/// with another address. The other way round the end would be the same.
 #[test]
 fn leaves_and_comes_back() {
     let (remove, add) = (0, 1);
     let jobs = [
         pipe::request(Kind::RemoveFirst, pipe::X, 1),
-        pipe::request(Kind::A, pipe::X, 9),
+        Request {
+            name: Name::new(b"\x04PIPE\0").unwrap(),
+            ..pipe::request(Kind::A, pipe::X, 9)
+        },
     ];
     let steps = [
         (remove, job::BEFORE_SECOND),
@@ -522,6 +525,7 @@ fn leaves_and_comes_back() {
         let list = fixed(way, &jobs, &steps);
         assert_eq!(list.list.jobs[add].count, 1);
         assert_eq!(list.seen(), [(remove, add)]);
+        assert!(list.in_other_letters(remove, add));
         let seen = |one, other| list.is_seen_on_one_name(one, other);
         let turned = |one, other| seen(other, one);
         // Both orders explain the list, and one of them keeps what was seen.
