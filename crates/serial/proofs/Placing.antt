@@ -289,12 +289,12 @@ module _ (J : ℕ → Arguments) (z₀ : Zone) (g₀ : Form z₀) where
     fits-after : Fits (J i) s → (k : ℕ) → Fits (J k) (f′ k)
     fits-after e = stand-case f i s (λ k t. Fits (J k) t) e (λ k q. v .fits k)
 
-    -- a job without a place does not stand in the order
+    -- a job without a place stands nowhere
+    nowhere : placed (f i) ≡ false → times i o + times i (v .put-off n) ≡ 0
+    nowhere a = v .each i ∙ ap (λ (b : Bool). cond b 1 0) a
+
     not-in : placed (f i) ≡ false → In i o → ⊥
-    not-in a h =
-        let l : 0 < times i o = times-in i o h in
-        let e : times i o + times i (v .put-off n) ≡ 0 = v .each i ∙ ap (λ (b : Bool). cond b 1 0) a in
-        omega arith
+    not-in a h = let l : 0 < times i o = times-in i o h in omega (arith, nowhere a)
 
     answers-after : (In i o → (d : End) → Answers (J i) d (f i) → Answers (J i) d s) → (x : ℕ) → In x o → (d : End) → Answers (J x) d (f x) → Answers (J x) d (f′ x)
     answers-after h = stand-case f i s (λ k t. In k o → (d : End) → Answers (J k) d (f k) → Answers (J k) d t) h (λ k q p d a. a)
@@ -348,9 +348,6 @@ module _ (J : ℕ → Arguments) (z₀ : Zone) (g₀ : Form z₀) where
           name k (yes q) = subst (λ (u : Octets). At z′ f′ y′ u (v .put-off u)) q m
           name k (no q) = off y′ z′ ey ez k (v .put-off k) q (was k q)
 
-          zero-i : times i o + times i (v .put-off n) ≡ 0
-          zero-i = v .each i ∙ ap (λ (b : Bool). cond b 1 0) a
-
           last : Agree J f′ (serial J z₀ o) (i ∷ [])
           last = unfold Agree in ((c .0, c .1, subst (Answers (J i) (c .0)) (sym (stand-same f i s)) (c .2)), tt)
 
@@ -360,7 +357,7 @@ module _ (J : ℕ → Arguments) (z₀ : Zone) (g₀ : Form z₀) where
               (let l : times i (o ++ (i ∷ [])) ≡ times i o + times i (i ∷ []) = times-append i o (i ∷ []) in
               let k : times i (i ∷ []) ≡ 1 = times-one i i ∙ ap (λ (u : Bool). cond u 1 0) (eq-eqb i i refl) in
               let d : stands (f′ i) ≡ 1 = ap stands (stand-same f i s) ∙ ap (λ (u : Bool). cond u 1 0) b in
-              omega (arith, zero-i))
+              omega (arith, nowhere a))
           each x (no q) =
               let l : times x (o ++ (i ∷ [])) ≡ times x o + times x (i ∷ []) = times-append x o (i ∷ []) in
               let k : times x (i ∷ []) ≡ 0 = times-one x i ∙ ap (λ (u : Bool). cond u 1 0) (ne-eqb x i q) in
@@ -493,16 +490,13 @@ module _ (J : ℕ → Arguments) (z₀ : Zone) (g₀ : Form z₀) where
         over-after z f (At z f) o v i beforeSecond (λ d. absurd (live d)),
       )
         where
-          none-i : times i o + times i (v .put-off m) ≡ 0
-          none-i = v .each i ∙ ap (λ (b : Bool). cond b 1 0) a
-
           each : (x : ℕ) → key (J x .update .name) ≡ m → Dec (x ≡ i) → times x o + times x (v .put-off m ++ (i ∷ [])) ≡ stands (stand f i beforeSecond x)
           each x r (yes p) =
               subst (λ (u : ℕ). times u o + times u (v .put-off m ++ (i ∷ [])) ≡ stands (stand f i beforeSecond u)) (sym p)
               (let l : times i (v .put-off m ++ (i ∷ [])) ≡ times i (v .put-off m) + times i (i ∷ []) = times-append i (v .put-off m) (i ∷ []) in
               let k : times i (i ∷ []) ≡ 1 = times-one i i ∙ ap (λ (u : Bool). cond u 1 0) (eq-eqb i i refl) in
               let d : stands (stand f i beforeSecond i) ≡ 1 = ap stands (stand-same f i beforeSecond) in
-              omega (arith, none-i))
+              omega (arith, nowhere z f (At z f) o v i beforeSecond a))
           each x r (no q) =
               let l : times x (v .put-off m ++ (i ∷ [])) ≡ times x (v .put-off m) + times x (i ∷ []) = times-append x (v .put-off m) (i ∷ []) in
               let k : times x (i ∷ []) ≡ 0 = times-one x i ∙ ap (λ (u : Bool). cond u 1 0) (ne-eqb x i q) in
