@@ -45,6 +45,7 @@ both = xRemoves ∷ adds ∷ []
 abbrev said : List End
 said = gone ∷ done 1 ∷ []
 
+-- PIPE is that name in other letters
 capital : Pipe PIPE
 unfolding nameIn PIPE
 capital = record { is = refl; key = unfold key pipe in refl; full = unfold isFull shapeOf limited labelsOf in refl; size = refl; octets = unfold areOctets in refl }
