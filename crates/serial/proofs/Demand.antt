@@ -241,7 +241,7 @@ module _ (C : Calls) (P : Promises C) (js : List Arguments) (z₀ : C .Z) (ks₀
       go (inl n) f = f k (n .1)
       go (inr n) f =
           let u : going (C .jobOf j .stage) ≡ true = ap going (f j (ap (getElem? ks) (n .0) ∙ g)) ∙ fresh-going (C .jobOf j .arguments) in
-          let t : _≡_ {A = ℕ} (cond (eqb i x && going (C .jobOf j .stage)) 1 0) 1 = rw (eq-eqb i x (sym (n .0)), u) refl in
+          let t : ownSteps C (stepped l i j r g p q) x ≡ ownSteps C l x + 1 = simp (ownSteps, eq-eqb i x (sym (n .0)), u) in
           absurd (omega arith)
 
   -- A further step, of job i: if it is its first request, then i does not stand in the order yet.
@@ -316,15 +316,15 @@ module _ (C : Calls) (P : Promises C) (js : List Arguments) (z₀ : C .Z) (ks₀
       s = C .jobOf j .stage
 
       go : ((¬ (x ≡ i)) × (getElem? ks x ≡ some k)) ⊎ ((x ≡ i) × (C .job r ≡ k)) → ((c : C .J) → getElem? ks x ≡ some c → Sent (C .jobOf c .stage) (ownSteps C l x))
-          → Sent (C .jobOf k .stage) (ownSteps C l x + cond (eqb i x && going s) 1 0)
+          → Sent (C .jobOf k .stage) (ownSteps C (stepped l i j r g p q) x)
       go (inl n) h =
-          let u : ownSteps C l x ≡ ownSteps C l x + cond (eqb i x && going s) 1 0 = rw (ne-eqb i x (λ m. n .0 (sym m))) (omega arith) in
+          let u : ownSteps C l x ≡ ownSteps C (stepped l i j r g p q) x = rw (ownSteps, ne-eqb i x (λ m. n .0 (sym m))) (omega arith) in
           subst (Sent (C .jobOf k .stage)) u (h k (n .1))
       go (inr n) h =
           let d : Sent s (ownSteps C l x) = h j (ap (getElem? ks) (n .0) ∙ g) in
           let a : step (C .jobOf j .arguments) (C .zoneOf z) s .stage ≡ C .jobOf k .stage =
           sym (ap (λ (v : Job). v .stage) (P .jobAfter z j r p q)) ∙ ap (λ (v : C .J). C .jobOf v .stage) (n .1) in
-          let u : ownSteps C l x + cond (going s) 1 0 ≡ ownSteps C l x + cond (eqb i x && going s) 1 0 = rw (eq-eqb i x (sym (n .0))) refl in
+          let u : ownSteps C l x + cond (going s) 1 0 ≡ ownSteps C (stepped l i j r g p q) x = rw (ownSteps, eq-eqb i x (sym (n .0))) refl in
           subst (Sent (C .jobOf k .stage)) u (subst (λ (v : Stage). Sent v (ownSteps C l x + cond (going s) 1 0)) a (sent-step (C .jobOf j .arguments) (C .zoneOf z) s (ownSteps C l x) d))
 
   -- a job that does not stand in the order changed nothing
