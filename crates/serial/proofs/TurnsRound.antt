@@ -126,12 +126,18 @@ seen =
     (next 1 adds (done 1) (done 1) refl refl (sends-whole adds noNames behind (done 1) add-second) (λ k. unfold sameAnswer stageNumber in refl) nobody))
     refl refl
 
+turned-add : Sends adds before (fresh adds) (heldByX two) (done 2)
+turned-add = sends-whole adds before (heldByX two) (done 2) add-first
+
+turned-remove : Sends xRemoves (heldByX two) (fresh xRemoves) behind kept
+turned-remove = sends-whole xRemoves (heldByX two) behind kept remove-second
+
 turned : Explains both said before behind (1 ∷ 0 ∷ [])
 unfolding times
 turned =
     two-explain xRemoves adds gone (done 1) refl refl
-    (next 1 adds (done 1) (done 2) refl refl (sends-whole adds before (heldByX two) (done 2) add-first) (λ k. unfold sameAnswer stageNumber in refl)
-    (next 0 xRemoves gone kept refl refl (sends-whole xRemoves (heldByX two) behind kept remove-second) (no-add kept gone) nobody))
+    (next 1 adds (done 1) (done 2) refl refl turned-add (λ k. unfold sameAnswer stageNumber in refl)
+    (next 0 xRemoves gone kept refl refl turned-remove (no-add kept gone) nobody))
     refl refl
 
 -- ---- the list
@@ -222,5 +228,10 @@ turns-round = record {
   endedFirst = ended-first;
   seen = in-calls (0 ∷ 1 ∷ []) seen;
   turned = in-calls (1 ∷ 0 ∷ []) turned;
+  turnedEnds = (
+    heldByX two,
+    subst (λ (z : rules.Zone). Sends adds z (fresh adds) (heldByX two) (done 2)) (sym full-zone) turned-add,
+    subst (λ (z : rules.Zone). Sends xRemoves (heldByX two) (fresh xRemoves) z kept) (sym (full-of-zone PIPE capital 9)) turned-remove,
+  );
   onlySeen = only-seen;
 }

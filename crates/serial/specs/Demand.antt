@@ -1,4 +1,4 @@
--- Demand 3, with document 02, n): what is claimed of a list of job steps.
+-- Demand 3: what it claims of a list of job steps. Document 01, "Zone, requests and jobs", with document 02, n).
 use mathlib.Core.Path.{_≡_}
 use mathlib.Core.Bool.{true, false}
 use mathlib.Core.List.{List, map}

@@ -1,4 +1,4 @@
--- How much can be asked of the order: lists of steps that tell.
+-- How much can be asked of the order: lists of steps that tell. Demand 3, and document 02, n).
 use mathlib.Core.Path.{_≡_}
 use mathlib.Core.Bool.{true}
 use mathlib.Core.List.{List, [], _∷_}
@@ -6,7 +6,7 @@ use Prim.Native.Nat.{ℕ}
 use Rattle.octets.specs.Count.{Octets}
 use Rattle.update.specs.Rules.{Zone}
 use Rattle.update.specs.Meaning.{zoneOf}
-use Rattle.job.specs.Jobs.{Arguments, End, done, gone, kept}
+use Rattle.job.specs.Jobs.{Arguments, End, done, gone, kept, fresh, Sends}
 use Rattle.serial.specs.Steps.{Calls, EndedFirst}
 use Rattle.serial.specs.Order.{sameAnswer, StandsOnce, InTurn, nobody, next}
 use Rattle.serial.specs.Demand.{Story, HeldHaveAddress, OnOneName, Fitting, Serializable}
@@ -21,9 +21,9 @@ PIPE = 4 ∷ 80 ∷ 73 ∷ 80 ∷ 69 ∷ 0 ∷ []
 -- ---- document 02, n), asks for more than demand 3
 
 -- X leaves and comes back, of the calls that run and with zones and jobs that a program can hold. X has pipe with 10.0.0.1; its remove of that
--- sends both its requests, and then its add of 10.0.0.9 to PIPE, which is the same name, sends one. Two orders fit, for the add first and the
--- remove after lead to the same zone, and the add is done. But the remove ended before the add sent its first request, so only one is as
--- players saw it.
+-- sends both its requests, and then its add of 10.0.0.9 to PIPE, which is the same name, sends one. Two orders fit: the add first and the
+-- remove after lead to the same zone, too, and the add is done, though it takes two requests then, and the remove keeps the name. But the
+-- remove ended before the add sent its first request, so only one order is as players saw it.
 pub record TurnsRound : Type 0 where
   pub story : Story running
   pub values : Held (story .steps)
@@ -34,6 +34,8 @@ pub record TurnsRound : Type 0 where
   pub endedFirst : EndedFirst running (story .steps) 0 1
   pub seen : Fitting running story (0 ∷ 1 ∷ [])
   pub turned : Fitting running story (1 ∷ 0 ∷ [])
+  pub turnedEnds : (y : Zone) × Sends (xAdds PIPE 9) (zoneOf (story .firstZone)) (fresh (xAdds PIPE 9)) y (done 2)
+      × Sends xRemoves y (fresh xRemoves) (zoneOf (story .lastZone)) kept
   pub onlySeen : (r : Serializable running story) → r .order ≡ 0 ∷ 1 ∷ []
 
 -- ---- the answers of removes can't be asked for

@@ -34,6 +34,7 @@ unfoldable pub times : ℕ → List ℕ → ℕ
 times i [] = 0
 times i (k ∷ o) = cond (eqb i k) 1 0 + times i o
 
+-- It stands there once; it does not stand there at all.
 abbrev pub StandsOnce : ℕ → List ℕ → Type 0
 StandsOnce i o = times i o ≡ 1
 
@@ -60,8 +61,8 @@ module _ (js : List Arguments) (ends : List End) where
     next : {x y z : Zone} {o : List ℕ} (i : ℕ) (j : Arguments) (e d : End) → getElem? js i ≡ some j → getElem? ends i ≡ some e
         → Sends j x (fresh j) y d → (j .kind ≡ add → sameAnswer d e ≡ true) → InTurn y o z → InTurn x (i ∷ o) z
 
-  -- An order that explains the list: each job that is not left out stands in it once, one that is not at all, and these jobs in their turn
-  -- lead from the list's first zone to its last.
+  -- An order that explains the list: each job stands in it once, or not at all if it is left out, and the jobs in their turn lead from the
+  -- list's first zone to its last.
   pub record Explains (x z : Zone) (o : List ℕ) : Type 0 where
     pub once : (i : ℕ) (e : End) → getElem? ends i ≡ some e → isLeftOut e ≡ false → StandsOnce i o
     pub notAtAll : (i : ℕ) (e : End) → getElem? ends i ≡ some e → isLeftOut e ≡ true → StandsNotAtAll i o
