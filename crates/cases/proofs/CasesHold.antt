@@ -20,6 +20,7 @@ use Rattle.leasepacket.specs.Options as packetOptions
 use Rattle.leasepacket.specs.Packet.{isPacket}
 use Rattle.leasepacket.specs.Options.{values, hasOptions}
 use Rattle.leasepacket.specs.Query.{anySet, hasHardwareKey, keys, keyOf, hasBadLength, refusals, firstOf, asking}
+use Rattle.leasepacket.specs.Layout.{fixedFields}
 use Rattle.leasetable.specs.Table.{risesFrom, tableFits, those, placed, ranked}
 use Rattle.leasereply.specs.Reply.{fixed, ofLease, flat, otherReply, activeReply}
 use Rattle.leasequery.specs.Answer.{hasKey, byAddressOf, byClientOf, answerBy, askedOf, answer}
@@ -41,5 +42,5 @@ p12-mixed = λ i. record { size = 0; at = fun-ext at i }
     at k = go (sameOctets (xRemoves .update .name) k) _ _
 
 pub cases-hold : All cases
-unfolding All Holds cases labelsOf limited shapeOf honoured flagAnswer byName bySuffix byFlags byValue answerOf octetsOf resultOf sameOctets numberAt isExpiry momentAfter expiryAfter earlier areMoments momentsAfter withdraws keep oneOf each distinct removed renewed evicted roomed inserted named namedAll isWhole options isArea isActing addressesFrom namedBy isSound isTimely optionApplied firstRefusal serverList bigEndian isAhead secondsLeft secondsSince allZero hardwareFits lengthsFit momentsFit wellFormed activeAt hasClientId ranksBefore packetOptions.options values anySet asking risesFrom tableFits those placed ranked fixed ofLease flat otherReply activeReply hasKey byAddressOf byClientOf answerBy askedOf answer key including excluding with withName withoutName heldBy empty withAddress withoutAddress newHost left fits writeB requestA requestB removeAddress deleteName removeName fresh after afterFirst afterSecond step stepped steppedFresh hasHardware hasHardwareKey keys keyOf hasBadLength refusals firstOf isPacket hasOptions
+unfolding All Holds cases labelsOf limited shapeOf honoured flagAnswer byName bySuffix byFlags byValue answerOf octetsOf resultOf sameOctets numberAt isExpiry momentAfter expiryAfter earlier areMoments momentsAfter withdraws keep oneOf each distinct removed renewed evicted roomed inserted named namedAll isWhole options isArea isActing addressesFrom namedBy isSound isTimely optionApplied firstRefusal serverList bigEndian isAhead secondsLeft secondsSince allZero hardwareFits lengthsFit momentsFit wellFormed activeAt hasClientId ranksBefore packetOptions.options values anySet asking risesFrom tableFits those placed ranked fixedFields fixed ofLease flat otherReply activeReply hasKey byAddressOf byClientOf answerBy askedOf answer key including excluding with withName withoutName heldBy empty withAddress withoutAddress newHost left fits writeB requestA requestB removeAddress deleteName removeName fresh after afterFirst afterSecond step stepped steppedFresh hasHardware hasHardwareKey keys keyOf hasBadLength refusals firstOf isPacket hasOptions
 cases-hold = (refl, (refl, (refl, (refl, (refl, (refl, (refl, ((refl, refl), ((refl, refl), ((refl, refl), (refl, (refl, (refl, (refl, (refl, (refl, ((refl, refl), ((refl, refl), ((refl, refl), ((refl, refl, refl), ((refl, refl, p12-mixed), ((refl, refl, p12-mixed), tt))))))))))))))))))))))

@@ -1,5 +1,7 @@
 -- Laws that belong to no one function. Crates above cite the definitions through these.
 pub mod OptionLaws
+pub mod LayoutLaws
+pub mod OccurrenceLaws
 pub mod QueryLaws
 pub mod ReadingLaws
 pub mod Equations

@@ -16,8 +16,10 @@ use Rattle.leasepacket.specs.declared.query.Query.the-variants.{ByAddres
 use Rattle.leasepacket.specs.Packet.{part, op, htype, hlen, ciaddr, giaddr, chaddr, isPacket}
 use Rattle.leasepacket.specs.Options.{Opt, opt, followed, options, values, valuesOf, valuesIn, hasOptions}
 use Rattle.leasepacket.specs.Query.{Asked, refused, byAddress, byHardware, byClientId, hasHardwareKey, keys, isLeaseQuery, idOr, keyOf, hasBadLength, refusals, firstOf, asking}
-use Rattle.leasepacket.specs.Reading.{before, idPlace, readAt, reading, asked}
+use Rattle.leasepacket.specs.Occurrence.{before, placeOf}
+use Rattle.leasepacket.specs.Reading.{idPlace, readAt, reading, asked}
 use Rattle.leasepacket.specs.Places.{ReadAs, Past, Passed}
+use Rattle.leasepacket.proofs.OccurrenceLaws.{value-at}
 use Rattle.leasepacket.proofs.QueryLaws.{reads, applies, passes, none-left, begins, type-long, type-is, keys-zero, keys-some, key-is, length-is, not-one, one, part-length}
 
 -- ---- the packet, its op, its options
@@ -146,39 +148,7 @@ module _ (p : List ℕ) (s : Passed 6 p Absent) (h : hasHardwareKey p ≡ true) 
       let t = passes p 7 _ _ (s .past) (bad ∙ rw (ne-eqb (hlen p) 0 e, le-ltb 16 (hlen p) l)) in
       reads p (byHardware (htype p) (hlen p) (chaddr p)) (t ∙ none-left p ∙ key-is p true [] h (s .ids .are))
 
--- ---- the place of the client id is where it stands
-take-own : (n : ℕ) (l : List ℕ) → take (length (take n l)) l ≡ take n l
-take-own zero l = refl
-take-own (suc n) [] = refl
-take-own (suc n) (x ∷ xs) = ap (λ (ys : List ℕ). x ∷ ys) (take-own n xs)
-
-nothing : {A : Type 0} (v : List ℕ) (vs : List (List ℕ)) → [] ≡ v ∷ vs → A
-nothing v vs e = absurd (let z : _≡_ {A = ℕ} 0 (suc (length vs)) = ap length e in omega arith)
-
-module _ (code : ℕ) (o : Opt) where
-  found-here : (r : Option (List Opt)) (v : List ℕ) (vs : List (List ℕ)) → eqb (o .code) code ≡ true → valuesOf code (followed o r) ≡ v ∷ vs → o .octets ≡ v
-  unfolding values headD
-  found-here none v vs c e = nothing v vs e
-  found-here (some os) v vs c e = let g : o .octets ∷ values code os ≡ v ∷ vs = rw c at e in ap (λ (l : List (List ℕ)). headD l []) g
-
-  found-behind : (r : Option (List Opt)) → eqb (o .code) code ≡ false → valuesOf code (followed o r) ≡ valuesOf code r
-  unfolding values
-  found-behind none c = refl
-  found-behind (some os) c = rw c
-
-value-at : (code passing : ℕ) (l v : List ℕ) (vs : List (List ℕ)) → valuesOf code (options passing l) ≡ v ∷ vs → take (length v) (drop (before code passing l) l) ≡ v
-unfolding options before values
-value-at code passing [] v vs e = nothing v vs e
-value-at code (suc k) (x ∷ rest) v vs e = value-at code k rest v vs e
-value-at code zero (x ∷ rest) v vs e =
-    cases (eqb x 255) (λ a. nothing v vs (rw a at e))
-    (λ a. cases (eqb x 0) (λ b. rw (a, b) (value-at code 0 rest v vs (rw (a, b) at e)))
-    (λ b. cases (eqb x code)
-    (λ c. let g : take (getD rest 0 0) (drop 1 rest) ≡ v = found-here code (opt x rest) (options (suc (getD rest 0 0)) rest) v vs c (rw (a, b) at e) in
-    rw (a, b, c) (ap (λ (w : List ℕ). take (length w) (drop 1 rest)) (sym g) ∙ take-own (getD rest 0 0) (drop 1 rest) ∙ g))
-    (λ c. rw (a, b, c) (value-at code (suc (getD rest 0 0)) rest v vs (sym (found-behind code (opt x rest) (options (suc (getD rest 0 0)) rest) c) ∙ rw (a, b) at e)))))
-
--- what is asked for names only octets of the packet
+-- ---- the place of the client id is where it stands: what is asked for names only octets of the packet
 abbrev Own : List ℕ → Asked → Type 0
 Own p (refused n) = Unit {0}
 Own p (byAddress a) = Unit {0}
@@ -192,7 +162,7 @@ module _ (p : List ℕ) where
   own-first (r ∷ rs) key k = cases (r .1) (λ t. rw t tt) (λ t. rw t (own-first rs key k))
 
   own-id : (ids : List (List ℕ)) → valuesIn 61 p ≡ ids → Own p (idOr (byAddress (ciaddr p)) ids)
-  unfolding idPlace
+  unfolding placeOf
   own-id [] e = tt
   own-id (id ∷ ids) e = ap (take (length id)) (sym (drop-drop (before 61 0 (drop 240 p)) 240 p)) ∙ value-at 61 0 (drop 240 p) id ids e
 

@@ -10,7 +10,7 @@ use Rattle.octets.specs.Number.{numberAt}
 abbrev pub part : List ℕ → ℕ → ℕ → List ℕ
 part p at n = take n (drop at p)
 
--- The fixed fields that a query is read by; op is 1 in a packet from a client or a relay.
+-- The fixed fields that a query or a reply is read by; op is 1 in a packet from a client or a relay, 2 in one from a server.
 abbrev pub op : List ℕ → ℕ
 op p = getD p 0 0
 
@@ -19,6 +19,9 @@ htype p = getD p 1 0
 
 abbrev pub hlen : List ℕ → ℕ
 hlen p = getD p 2 0
+
+abbrev pub xid : List ℕ → ℕ
+xid p = numberAt 4 p 4
 
 abbrev pub ciaddr : List ℕ → ℕ
 ciaddr p = numberAt 4 p 12

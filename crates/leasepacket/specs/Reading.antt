@@ -1,27 +1,16 @@
 -- What `query::read` answers: what a packet asks for, with a client id told by its place.
-use Prim.Native.Nat.{ℕ, zero, suc, _+_}
-use mathlib.Core.Bool.{cond}
-use mathlib.Core.List.{List, [], _∷_}
-use lib.Dec.{eqb}
-use lib.ListN.{length, getD}
+use Prim.Native.Nat.{ℕ}
+use mathlib.Core.List.{List}
+use lib.ListN.{length}
 use Rattle.leasepacket.specs.declared.query.Query.{Query}
 use Rattle.leasepacket.specs.declared.query.Query.the-variants.{ByAddress, ByHardware, ByClientId, Refused}
-use Rattle.leasepacket.specs.Packet.{part, chaddr, clientId, optionArea}
+use Rattle.leasepacket.specs.Packet.{part, chaddr, clientId}
+use Rattle.leasepacket.specs.Occurrence.{placeOf}
 use Rattle.leasepacket.specs.Query.{Asked, refused, byAddress, byHardware, byClientId, asking}
 
--- How many octets stand before the value of the first option of a code, in octets that hold options; the first number says how many are
--- still to pass, as in `options`. Where there is no such option the number means nothing.
-unfoldable pub before : ℕ → ℕ → List ℕ → ℕ
-before code passing [] = 0
-before code (suc passing) (x ∷ rest) = suc (before code passing rest)
-before code zero (x ∷ rest) =
-    cond (eqb x 255) 0
-    (cond (eqb x 0) (suc (before code 0 rest))
-    (cond (eqb x code) 2 (suc (before code (suc (getD rest 0 0)) rest))))
-
 -- Where the value of the client id stands in a packet.
-unfoldable pub idPlace : List ℕ → ℕ
-idPlace p = 240 + before clientId 0 (optionArea p)
+abbrev pub idPlace : List ℕ → ℕ
+idPlace p = placeOf clientId p
 
 -- What is asked for, with a client id at a place.
 abbrev pub readAt : ℕ → Asked → Query

@@ -20,7 +20,8 @@ use Rattle.octets.proofs.WriteLaws.{nothing, more, put-front}
 use Rattle.lease.specs.declared.Lease.{Lease}
 use Rattle.lease.specs.declared.Rank.{Rank}
 use Rattle.leasepacket.specs.Packet.{part}
-use Rattle.leasereply.specs.Reply.{fixed, option, optional, ofLease, flat, otherReply, activeReply, addressesOf, listed, Wrote}
+use Rattle.leasepacket.specs.Layout.{fixedFields, option, optional}
+use Rattle.leasereply.specs.Reply.{fixed, ofLease, flat, otherReply, activeReply, addressesOf, listed, Wrote}
 
 -- ---- options that may be left out
 pub some : (code : ℕ) (v : List ℕ) → 0 < length v → option code v ≡ optional code v
@@ -63,7 +64,7 @@ part-short : (q : List ℕ) (at n : ℕ) → length (part q at n) ≤ n
 part-short q at n = let e = length-take n (drop at q) in omega (arith, e)
 
 fixed-short : (q : List ℕ) (htype hlen : ℕ) (ciaddr chaddr : List ℕ) → length ciaddr ≤ 4 → length chaddr ≤ 16 → length (fixed q htype hlen ciaddr chaddr) ≤ 240
-unfolding fixed
+unfolding fixed fixedFields
 fixed-short q htype hlen ciaddr chaddr a b =
     let x = part-short q 4 4 in
     let y = part-short q 10 2 in

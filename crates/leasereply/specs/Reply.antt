@@ -4,28 +4,19 @@ use mathlib.Core.Path.{_≡_}
 use mathlib.Core.Bool.{cond, _||_}
 use mathlib.Core.List.{List, [], _∷_, _++_, map}
 use lib.Dec.{ltb}
-use lib.ListN.{length, getD, take, replicate}
+use lib.ListN.{length, getD, take}
 use Rattle.clock.specs.declared.Moment.{Moment}
 use Rattle.clock.specs.Clock.{secondsLeft, secondsSince}
 use Rattle.octets.specs.Number.{bigEndian}
 use Rattle.octets.specs.Write.{laid}
 use Rattle.lease.specs.declared.Lease.{Lease}
 use Rattle.lease.specs.declared.Rank.{Rank}
-use Rattle.leasepacket.specs.Packet.{part, cookie, messageType, clientId, leaseTime, serverId, relayInformation, lastTransactionTime, associatedIp}
+use Rattle.leasepacket.specs.Packet.{part, messageType, clientId, leaseTime, serverId, relayInformation, lastTransactionTime, associatedIp}
+use Rattle.leasepacket.specs.Layout.{fixedFields, option, optional}
 
--- op 2; xid, flags and giaddr copied from the query; the other fields zero, but for those given; the cookie.
+-- op 2; xid, flags and giaddr copied from the query; the other fields zero, but for those given.
 unfoldable pub fixed : List ℕ → ℕ → ℕ → List ℕ → List ℕ → List ℕ
-fixed query htype hlen ciaddr chaddr =
-    ((2 ∷ htype ∷ hlen ∷ 0 ∷ []) ++ part query 4 4 ++ replicate 2 0 ++ part query 10 2)
-    ++ (ciaddr ++ replicate 8 0 ++ part query 24 4 ++ chaddr ++ replicate 192 0 ++ cookie)
-
--- An option with its value, and one that is left out where the value is empty.
-abbrev pub option : ℕ → List ℕ → List ℕ
-option code value = code ∷ length value ∷ value
-
-abbrev pub optional : ℕ → List ℕ → List ℕ
-optional code [] = []
-optional code (x ∷ xs) = option code (x ∷ xs)
+fixed query htype hlen ciaddr chaddr = fixedFields 2 htype hlen (part query 4 4) (part query 10 2) ciaddr (part query 24 4) chaddr
 
 -- 51, seconds to expiry; 61 and 82 if the record has them; 91, seconds since the last transaction.
 unfoldable pub ofLease : Moment → Lease → List ℕ

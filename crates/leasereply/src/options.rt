@@ -10,7 +10,8 @@ ghost use lib.ListN.{take};
 ghost use Prim.Native.Nat.{_≤_, min};
 ghost use Rattle.octets.specs.Number.{bigEndian};
 ghost use Rattle.octets.specs.Write.{WroteIf};
-ghost use Rattle.leasereply.specs.Reply.{option, optional, addressesOf, listed, flat, ofLease};
+ghost use Rattle.leasepacket.specs.Layout.{option, optional};
+ghost use Rattle.leasereply.specs.Reply.{addressesOf, listed, flat, ofLease};
 
 // The message type (53).
 pub(crate) fn put_kind(buf: &mut [u8], at: usize, kind: u8) -> usize

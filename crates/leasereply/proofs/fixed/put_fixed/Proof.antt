@@ -1,4 +1,5 @@
 use Rattle.octets.proofs.WriteLaws.{then}
+use Rattle.leasepacket.specs.Layout.{fixedFields}
 use Rattle.leasereply.specs.Reply.{fixed}
 use borrow.Author.Needs.{needs}
 use Rattle.leasereply.proofs.fixed.put_fixed.Statement.{statement}
@@ -14,7 +15,7 @@ same-length : tie.Need-same-length
 same-length c = search needs
 
 returns : tie.Need-returns
-unfolding fixed
+unfolding fixed fixedFields
 returns c = then (c .before .before .before .before .before .before .put-front .ensures) (c .before .before .put-back .ensures)
 
 pub put-fixed-spec : {M : Type 1} → statement M

@@ -1,0 +1,25 @@
+use Rattle.octets.proofs.WriteLaws.{then}
+use Rattle.leasepacket.specs.Layout.{fixedFields}
+use borrow.Author.Needs.{needs}
+use Rattle.deskquery.proofs.fixed.put_fixed.Statement.{statement}
+use Rattle.deskquery.proofs.fixed.put_fixed.Tie as tie
+
+cast-hlen : tie.Need-cast-hlen
+cast-hlen c = search needs
+
+put-front-requires : tie.Need-put-front-requires
+put-front-requires c κs = search needs
+
+put-back-requires : tie.Need-put-back-requires
+put-back-requires c κs = search needs
+
+same-length : tie.Need-same-length
+same-length c = search needs
+
+returns : tie.Need-returns
+unfolding fixedFields
+returns c = then (c .before .before .before .before .before .before .put-front .ensures) (c .before .before .put-back .ensures)
+
+pub put-fixed-spec : {M : Type 1} → statement M
+put-fixed-spec =
+    tie.close (tie.spec cast-hlen put-front-requires put-back-requires same-length returns)

@@ -1,0 +1,37 @@
+-- Which packets are replies. Document 02, d); the packet checks 1 and 3 are those of a query.
+use Prim.Native.Nat.{ℕ, _%_}
+use mathlib.Core.Bool.{Bool, true, false, not, _&&_}
+use mathlib.Core.List.{List, [], _∷_}
+use lib.Dec.{leb, eqb}
+use lib.ListN.{length, getD}
+use Rattle.leasepacket.specs.Packet.{op, hlen, messageType, isPacket}
+use Rattle.leasepacket.specs.Options.{valuesIn, hasOptions}
+use Rattle.leasepacket.specs.ReplyOptions.{Rule, inKind}
+
+-- The values of an option keep its rule: it is not repeated, its length is one that a server gives it, and it is there if every server sends it.
+unfoldable pub keeps : Rule → List (List ℕ) → Bool
+keeps rule [] = not (rule .always)
+keeps rule (v ∷ []) = leb (rule .least) (length v) && leb (length v) (rule .most) && eqb (length v % rule .unit) 0
+keeps rule (v ∷ w ∷ vs) = false
+
+unfoldable pub keepsAll : List Rule → List ℕ → Bool
+keepsAll [] p = true
+keepsAll (rule ∷ rules) p = keeps rule (valuesIn (rule .code) p) && keepsAll rules p
+
+-- The kind of a reply, by the values of its message type; 0 where there is no such option, or more than one.
+abbrev pub kindBy : List (List ℕ) → ℕ
+kindBy [] = 0
+kindBy (v ∷ []) = getD v 0 0
+kindBy (v ∷ w ∷ vs) = 0
+
+abbrev pub kindOf : List ℕ → ℕ
+kindOf p = kindBy (valuesIn messageType p)
+
+-- LEASEUNASSIGNED (11), LEASEUNKNOWN (12) or LEASEACTIVE (13).
+abbrev pub isKind : ℕ → Bool
+isKind kind = leb 11 kind && leb kind 13
+
+-- A well-formed reply passes the packet checks 1 and 3, comes from a server, has a hardware address that fits and a kind, and each option
+-- that servers write in this kind keeps its rule. Other options and fields are not looked at. Anything else is refusal 20.
+unfoldable pub isReply : List ℕ → Bool
+isReply p = isPacket p && hasOptions p && eqb (op p) 2 && leb (hlen p) 16 && isKind (kindOf p) && keepsAll (inKind (kindOf p)) p
