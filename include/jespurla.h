@@ -1,8 +1,8 @@
 /*
- * Jespurla: the core of an address box. It answers lease queries (RFC 4388) and the DHCPv6 name
- * option (RFC 4704), keeps the DNS servers that routers announce (RFC 5006), and writes names into
- * a DNS zone that several boxes share (RFC 4703). It opens no sockets and keeps no state of its
- * own.
+ * Jespurla: the core of an address box. It answers lease queries (RFC 4388), writes them and reads
+ * their replies, answers the DHCPv6 name option (RFC 4704), keeps the DNS servers that routers
+ * announce (RFC 5006), and writes names into a DNS zone that several boxes share (RFC 4703). It
+ * opens no sockets and keeps no state of its own.
  *
  * Every call is proved to meet its promise; docs/PROMISES.md lists the promises and docs/RULES.md
  * the rules. Every call takes every value of its arguments, returns, and reads and writes only what
@@ -50,7 +50,7 @@ extern "C" {
  * library may have to change.
  */
 #define JESPURLA_VERSION_MAJOR 0
-#define JESPURLA_VERSION_MINOR 4
+#define JESPURLA_VERSION_MINOR 5
 #define JESPURLA_VERSION_PATCH 0
 #define JESPURLA_VERSION \
     (JESPURLA_VERSION_MAJOR * 65536 + JESPURLA_VERSION_MINOR * 256 + JESPURLA_VERSION_PATCH)
@@ -90,12 +90,14 @@ static inline const char *jespurla_refusal_text(uint32_t refusal)
 #define JESPURLA_ROUTER_LIFETIME_MAX 65535 /* a router's lifetime, in seconds */
 #define JESPURLA_SERVERS_MAX 8             /* servers in the list */
 #define JESPURLA_OPTION_SERVERS_MAX 3      /* addresses of one option that count */
-#define JESPURLA_PACKET_MIN 240            /* a lease query, at the least */
-#define JESPURLA_PACKET_MAX 1500           /* a lease query, at the most */
+#define JESPURLA_PACKET_MIN 240            /* a lease query or reply, at the least */
+#define JESPURLA_PACKET_MAX 1500           /* a lease query or reply that is read, at the most */
 #define JESPURLA_LEASE_REPLY_MIN 648       /* the buffer for a lease reply; no reply is longer */
+#define JESPURLA_LEASE_QUERY_MIN 501       /* the buffer for a lease query; none written is longer */
 #define JESPURLA_LEASES_MAX 256            /* records in the lease table */
 #define JESPURLA_HARDWARE_MAX 16           /* a hardware address */
 #define JESPURLA_CLIENT_ID_MAX 64          /* a client id in the lease table */
+#define JESPURLA_QUERY_CLIENT_ID_MAX 255   /* a client id in a lease query that is written */
 #define JESPURLA_RELAY_MAX 64              /* relay agent information in the lease table */
 #define JESPURLA_REPLY_ADDRESSES_MAX 63    /* addresses in option 92 of a reply */
 #define JESPURLA_DHCID_LENGTH 35           /* a DHCID */
@@ -318,6 +320,100 @@ jespurla_lease_answer jespurla_lease_query(jespurla_moment clock,
                                            uint32_t server,
                                            const uint8_t *query, size_t query_length,
                                            uint8_t *reply, size_t reply_length);
+
+/* ---- Asking: lease queries written, and their replies read (RFC 4388) */
+
+typedef struct {
+    uint32_t refusal;
+    uint32_t length; /* how many octets stand at the front of query */
+} jespurla_query_answer;
+
+/*
+ * A lease query, for whoever asks a server: by an address, by a client's hardware address, or by a
+ * client id.
+ *
+ * xid: the number by which the reply is known, best one that nobody guesses, and another for each
+ * query that awaits a reply.
+ * giaddr: the asker's address, as a number, to which the server sends the reply.
+ * address: the address that is asked about, as a number.
+ * htype, chaddr, chaddr_length: the type of the hardware (1 is Ethernet) and the hardware address,
+ * 1 to JESPURLA_HARDWARE_MAX octets.
+ * id, id_length: the client id, 2 to JESPURLA_QUERY_CLIENT_ID_MAX octets.
+ * query, query_length: where the query goes, as UDP is to carry it to the server; at least
+ * JESPURLA_LEASE_QUERY_MIN octets.
+ *
+ * The rule: the query has op 1, the xid and the giaddr. By address the ciaddr is the address; by
+ * hardware htype is the type, hlen the number of octets and chaddr these octets, with zeros behind
+ * them. All other fields before the cookie are zero. Then come the cookie and the options: 53 with
+ * 10, a lease query; by client id 61, the id; 255. The octets of query past it keep their values.
+ * jespurla_lease_query takes every query that is written here, with this one key. A client id of
+ * over JESPURLA_CLIENT_ID_MAX octets is written, and that server answers LEASEUNKNOWN.
+ * Refusals: 19 giaddr zero; 19 address zero, hardware address of no octets or over
+ * JESPURLA_HARDWARE_MAX, or client id of under 2 octets or over JESPURLA_QUERY_CLIENT_ID_MAX; 32
+ * query under JESPURLA_LEASE_QUERY_MIN octets, also where this query would fit.
+ * A program that gets 19 sends nothing and tells whoever asked that there can be no such query; 32
+ * is about its own memory.
+ */
+jespurla_query_answer jespurla_query_by_address(uint32_t xid, uint32_t giaddr, uint32_t address,
+                                                uint8_t *query, size_t query_length);
+
+jespurla_query_answer jespurla_query_by_hardware(uint32_t xid, uint32_t giaddr, uint8_t htype,
+                                                 const uint8_t *chaddr, size_t chaddr_length,
+                                                 uint8_t *query, size_t query_length);
+
+jespurla_query_answer jespurla_query_by_client_id(uint32_t xid, uint32_t giaddr,
+                                                  const uint8_t *id, size_t id_length,
+                                                  uint8_t *query, size_t query_length);
+
+/*
+ * What stands in a reply. Its two times are spans: how long the lease has still to run, and how
+ * long ago the last transaction was, counted from when the server wrote the reply. Without a time
+ * both numbers of it are 0.
+ */
+typedef struct {
+    uint32_t refusal;
+    uint32_t kind;       /* one of the kinds of reply */
+    uint32_t address;    /* the ciaddr: the address leased, or the one that was asked about */
+    uint32_t has_left;   /* 1 where the seconds left are there, else 0 */
+    jespurla_span left;  /* all ones: without end */
+    uint32_t has_since;  /* 1 where the seconds since the last transaction are there, else 0 */
+    jespurla_span since;
+    uint32_t count;      /* of addresses */
+    uint32_t addresses[JESPURLA_REPLY_ADDRESSES_MAX]; /* as numbers; zeros from count on */
+    uint8_t chaddr[JESPURLA_HARDWARE_MAX];            /* all 16 octets of the reply's field */
+    uint8_t htype;
+    uint8_t hlen; /* how many octets of chaddr count, at most 16 */
+} jespurla_lease_reading;
+
+/*
+ * What stands in the reply to a lease query.
+ *
+ * xid: that of the query.
+ * reply, reply_length: the packet, as UDP carried it, from op on. It is only read.
+ *
+ * The rule: the kind is that of option 53; address, htype, hlen and chaddr are the fields of these
+ * names, address that of ciaddr. Of LEASEACTIVE left is option 51, since option 91, and addresses
+ * are those of option 92, in its order, or none where it is absent: where the client has two or more
+ * active leases, all of them, the latest first. LEASEUNASSIGNED and LEASEUNKNOWN have neither time
+ * and no addresses. Every reply of jespurla_lease_query is read back with the values that it was
+ * written from.
+ * Refusals: 20 a malformed reply; 21 its xid is not that of the query. A reply is malformed where it
+ * has under JESPURLA_PACKET_MIN or over JESPURLA_PACKET_MAX octets, or a wrong cookie; where its
+ * options run past the end, lack the end option, or have 53 or 61 twice; where its op is not 2 or
+ * its hlen above 16; or by one of these options:
+ *  - 53: must be there once, with one octet, 11 to 13;
+ *  - 54: must be there once, with 4 octets;
+ *  - 51 and 91, of LEASEACTIVE alone: must each be there once, with 4 octets;
+ *  - 61, of LEASEACTIVE alone: has 2 to 64 octets;
+ *  - 82, of LEASEACTIVE alone: may be there once, with 1 to 64 octets;
+ *  - 92, of LEASEACTIVE alone: may be there once, with 8 to 252 octets, a multiple of 4.
+ * In the other two kinds the options of LEASEACTIVE are not looked at. The order of options does not
+ * matter, nor does any other option; option 52 is not followed.
+ * A program that gets 20 or 21 drops the packet and goes on waiting for its reply, for as long as it
+ * would have waited without it: whoever can send to it can send such packets.
+ */
+jespurla_lease_reading jespurla_lease_reply_read(uint32_t xid, const uint8_t *reply,
+                                                 size_t reply_length);
 
 /* ---- A DNS zone, and what stands in it */
 

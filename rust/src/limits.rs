@@ -14,18 +14,22 @@ pub const ROUTER_LIFETIME_MAX: u32 = 65_535;
 pub const SERVERS_MAX: usize = 8;
 /// Addresses of one option that count.
 pub const OPTION_SERVERS_MAX: usize = 3;
-/// A lease query, at least.
+/// A lease query or reply, at least.
 pub const PACKET_MIN: usize = 240;
-/// A lease query, at most.
+/// A lease query or reply that is read, at most.
 pub const PACKET_MAX: usize = 1500;
 /// The buffer for a lease reply, at least; no reply is longer.
 pub const LEASE_REPLY_MIN: usize = 648;
+/// The buffer for a lease query, at least; none that is written is longer.
+pub const LEASE_QUERY_MIN: usize = 501;
 /// Records in the lease table.
 pub const LEASES_MAX: usize = 256;
 /// A hardware address.
 pub const HARDWARE_MAX: usize = 16;
 /// A client id in the lease table.
 pub const CLIENT_ID_MAX: usize = 64;
+/// A client id in a lease query that is written.
+pub const QUERY_CLIENT_ID_MAX: usize = 255;
 /// Relay agent information in the lease table.
 pub const RELAY_MAX: usize = 64;
 /// Addresses in option 92 of a reply.

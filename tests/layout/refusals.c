@@ -30,7 +30,11 @@ static const struct {
     { 16, JESPURLA_REFUSED_AREA },
     { 17, JESPURLA_REFUSED_ZONE },
     { 18, JESPURLA_REFUSED_NUMBERS },
+    { 19, JESPURLA_REFUSED_QUERY },
+    { 20, JESPURLA_REFUSED_REPLY },
+    { 21, JESPURLA_REFUSED_XID },
     { 31, JESPURLA_REFUSED_SERVER_LIST },
+    { 32, JESPURLA_REFUSED_QUERY_ROOM },
 };
 
 static const uint32_t listed[] = {

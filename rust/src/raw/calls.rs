@@ -5,9 +5,9 @@ use core::ptr;
 use core::slice;
 
 use super::{
-    Address, Answered, CheckAnswer, Dhcid, FindAnswer, FlagAnswer, Job, Lease, LeaseAnswer, Moment,
-    Name, NameAnswer, NewJob, RequestAnswer, SameAnswer, ServerListAnswer, ServerListState, Span,
-    StepAnswer, Stepped, Zone,
+    Address, Answered, CheckAnswer, Dhcid, FindAnswer, FlagAnswer, Job, Lease, LeaseAnswer,
+    LeaseReading, Moment, Name, NameAnswer, NewJob, QueryAnswer, RequestAnswer, SameAnswer,
+    ServerListAnswer, ServerListState, Span, StepAnswer, Stepped, Zone,
 };
 
 /// The calls as include/jespurla.h declares them.
@@ -48,6 +48,39 @@ mod c {
             reply: *mut u8,
             reply_length: usize,
         ) -> LeaseAnswer;
+
+        pub fn jespurla_query_by_address(
+            xid: u32,
+            giaddr: u32,
+            address: u32,
+            query: *mut u8,
+            query_length: usize,
+        ) -> QueryAnswer;
+
+        pub fn jespurla_query_by_hardware(
+            xid: u32,
+            giaddr: u32,
+            htype: u8,
+            chaddr: *const u8,
+            chaddr_length: usize,
+            query: *mut u8,
+            query_length: usize,
+        ) -> QueryAnswer;
+
+        pub fn jespurla_query_by_client_id(
+            xid: u32,
+            giaddr: u32,
+            id: *const u8,
+            id_length: usize,
+            query: *mut u8,
+            query_length: usize,
+        ) -> QueryAnswer;
+
+        pub fn jespurla_lease_reply_read(
+            xid: u32,
+            reply: *const u8,
+            reply_length: usize,
+        ) -> LeaseReading;
 
         pub fn jespurla_zone_find(zone: *const Zone, length: usize, name: Name) -> FindAnswer;
 
@@ -241,6 +274,67 @@ pub fn lease_query(
             reply.len(),
         )
     }
+}
+
+/// A query by an address, with addresses as numbers.
+///
+/// Refusals of this and of the two other queries, in the order in which they are tried: 19 a giaddr
+/// or a key that no server takes, or a client id of over 255 octets; 32 a buffer of under 501 octets.
+#[inline]
+pub fn query_by_address(xid: u32, giaddr: u32, address: u32, query: &mut [u8]) -> QueryAnswer {
+    // SAFETY: the pointer comes from a slice that outlives the call, with that slice's length; a
+    // slice's pointer is never null.
+    unsafe { c::jespurla_query_by_address(xid, giaddr, address, query.as_mut_ptr(), query.len()) }
+}
+
+/// A query by a hardware address, with the giaddr as a number. Refusals as of [`query_by_address`].
+#[inline]
+pub fn query_by_hardware(
+    xid: u32,
+    giaddr: u32,
+    htype: u8,
+    chaddr: &[u8],
+    query: &mut [u8],
+) -> QueryAnswer {
+    // SAFETY: each pointer comes from a slice that outlives the call, with that slice's length; a
+    // slice's pointer is never null, and `query` is borrowed apart from the other.
+    unsafe {
+        c::jespurla_query_by_hardware(
+            xid,
+            giaddr,
+            htype,
+            chaddr.as_ptr(),
+            chaddr.len(),
+            query.as_mut_ptr(),
+            query.len(),
+        )
+    }
+}
+
+/// A query by a client id, with the giaddr as a number. Refusals as of [`query_by_address`].
+#[inline]
+pub fn query_by_client_id(xid: u32, giaddr: u32, id: &[u8], query: &mut [u8]) -> QueryAnswer {
+    // SAFETY: as in query_by_hardware.
+    unsafe {
+        c::jespurla_query_by_client_id(
+            xid,
+            giaddr,
+            id.as_ptr(),
+            id.len(),
+            query.as_mut_ptr(),
+            query.len(),
+        )
+    }
+}
+
+/// What stands in the reply to a lease query with this xid.
+///
+/// Refusals, in the order in which they are tried: 20 a malformed reply; 21 a reply with another xid.
+#[inline]
+pub fn lease_reply_read(xid: u32, reply: &[u8]) -> LeaseReading {
+    // SAFETY: the pointer comes from a slice that outlives the call, with that slice's length; a
+    // slice's pointer is never null.
+    unsafe { c::jespurla_lease_reply_read(xid, reply.as_ptr(), reply.len()) }
 }
 
 /// What stands at a name: a copy, octet for octet, of the one entry that has it, in whatever letters,

@@ -9,6 +9,7 @@
 //! no zone. Structs that can be compared with `==` here are compared field by field, whether the
 //! library looks at a field or not. Zones can't: [`zone_same`] says whether two mean the same.
 
+mod asking;
 #[allow(unsafe_code)]
 mod calls;
 mod job;
@@ -19,6 +20,7 @@ mod name_option;
 mod server_list;
 mod zone;
 
+pub use asking::*;
 pub use calls::*;
 pub use job::*;
 pub use lease::*;
