@@ -93,7 +93,7 @@ static inline const char *jespurla_refusal_text(uint32_t refusal)
 #define JESPURLA_PACKET_MIN 240            /* a lease query or reply, at the least */
 #define JESPURLA_PACKET_MAX 1500           /* a lease query or reply that is read, at the most */
 #define JESPURLA_LEASE_REPLY_MIN 648       /* the buffer for a lease reply; no reply is longer */
-#define JESPURLA_LEASE_QUERY_MIN 501       /* the buffer for a lease query; none written is longer */
+#define JESPURLA_LEASE_QUERY_MIN 501       /* the buffer to write a lease query; none is longer */
 #define JESPURLA_LEASES_MAX 256            /* records in the lease table */
 #define JESPURLA_HARDWARE_MAX 16           /* a hardware address */
 #define JESPURLA_CLIENT_ID_MAX 64          /* a client id in the lease table */
@@ -393,12 +393,12 @@ typedef struct {
  *
  * The rule: the kind is that of option 53; address, htype, hlen and chaddr are the fields of these
  * names, address that of ciaddr. Of LEASEACTIVE left is option 51, since option 91, and addresses
- * are those of option 92, in its order, or none where it is absent: where the client has two or more
- * active leases, all of them, the latest first. LEASEUNASSIGNED and LEASEUNKNOWN have neither time
- * and no addresses. Every reply of jespurla_lease_query is read back with the values that it was
- * written from.
- * Refusals: 20 a malformed reply; 21 its xid is not that of the query. A reply is malformed where it
- * has under JESPURLA_PACKET_MIN or over JESPURLA_PACKET_MAX octets, or a wrong cookie; where its
+ * are those of option 92 in its order, none where it is absent: the active leases of a client that
+ * has two or more, the latest first, the one of address among them. LEASEUNASSIGNED and
+ * LEASEUNKNOWN have neither time and no addresses. Every reply of jespurla_lease_query is read back
+ * with the values that it was written from.
+ * Refusals: 20 a malformed reply; 21 its xid is not that of the query. A reply is malformed where
+ * it has under JESPURLA_PACKET_MIN or over JESPURLA_PACKET_MAX octets, or a wrong cookie; where its
  * options run past the end, lack the end option, or have 53 or 61 twice; where its op is not 2 or
  * its hlen above 16; or by one of these options:
  *  - 53: must be there once, with one octet, 11 to 13;
@@ -407,10 +407,10 @@ typedef struct {
  *  - 61, of LEASEACTIVE alone: has 2 to 64 octets;
  *  - 82, of LEASEACTIVE alone: may be there once, with 1 to 64 octets;
  *  - 92, of LEASEACTIVE alone: may be there once, with 8 to 252 octets, a multiple of 4.
- * In the other two kinds the options of LEASEACTIVE are not looked at. The order of options does not
- * matter, nor does any other option; option 52 is not followed.
- * A program that gets 20 or 21 drops the packet and goes on waiting for its reply, for as long as it
- * would have waited without it: whoever can send to it can send such packets.
+ * In the other two kinds the options of LEASEACTIVE are not looked at. The order of options does
+ * not matter, nor does any other option; option 52 is not followed.
+ * A program that gets 20 or 21 drops the packet and goes on waiting for its reply, for as long as
+ * it would have waited without it: whoever can send to it can send such packets.
  */
 jespurla_lease_reading jespurla_lease_reply_read(uint32_t xid, const uint8_t *reply,
                                                  size_t reply_length);

@@ -1,6 +1,6 @@
-//! The core of an address box: lease queries (RFC 4388), the DHCPv6 name option (RFC 4704), the DNS
-//! servers that routers announce (RFC 5006), and the players' names in a DNS zone that several
-//! boxes share (RFC 4703). It opens no sockets and keeps no state of its own.
+//! The core of an address box: lease queries, answered and asked (RFC 4388), the DHCPv6 name option
+//! (RFC 4704), the DNS servers that routers announce (RFC 5006), and the players' names in a DNS zone
+//! that several boxes share (RFC 4703). It opens no sockets and keeps no state of its own.
 //!
 //! The calls are those of `libjespurla.a`, each proved to meet its promise. Every call takes every
 //! value of its arguments, returns, and reads and writes only what it was lent.
@@ -36,6 +36,10 @@
 //! | [`ServerList::after`], [`advance`](ServerList::advance) | `jespurla_server_list` | applies a router's lifetime and options to the list of DNS servers |
 //! | [`ServerList::expire`] | `jespurla_server_list` | drops the DNS servers that have expired |
 //! | [`lease_query`] | `jespurla_lease_query` | replies to a lease query |
+//! | [`query_by_address`] | `jespurla_query_by_address` | writes a lease query by an address |
+//! | [`query_by_hardware`] | `jespurla_query_by_hardware` | writes a lease query by a hardware address |
+//! | [`query_by_client_id`] | `jespurla_query_by_client_id` | writes a lease query by a client id |
+//! | [`read_lease_reply`] | `jespurla_lease_reply_read` | reads the reply to a lease query |
 //! | [`Zone::find`] | `jespurla_zone_find` | tells what stands at a name |
 //! | `==` of [`Zone`]s | `jespurla_zone_same` | tells whether two zones mean the same |
 //! | [`Zone::check`] | `jespurla_zone_check_lent` | tells whether a zone keeps its form |
@@ -94,12 +98,14 @@ mod flags;
 mod job;
 mod lease;
 mod lease_query;
+mod lease_reading;
 pub mod limits;
 mod moment;
 mod name;
 mod name_option;
 mod numbers;
 mod presentation;
+mod query;
 pub mod raw;
 mod refusal;
 mod request;
@@ -117,11 +123,13 @@ pub use flags::{flag_decision, FlagDecision};
 pub use job::Job;
 pub use lease::{Lease, LeaseState};
 pub use lease_query::{lease_query, LeaseReply, ReplyKind};
+pub use lease_reading::{read_lease_reply, LeaseReading, TimeLeft};
 pub use moment::{Expiry, Moment, Span};
 pub use name::Name;
 pub use name_option::{name_option_answer, NameReply};
 pub use numbers::UnlistedNumber;
 pub use presentation::ParseNameError;
+pub use query::{query_by_address, query_by_client_id, query_by_hardware};
 pub use raw::{FLAG_N, FLAG_O, FLAG_S};
 pub use refusal::Refusal;
 pub use request::{Answer, Policy};

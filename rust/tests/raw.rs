@@ -207,6 +207,48 @@ fn requests_on_a_lent_zone_leave_what_those_by_value_hand_back() {
 }
 
 #[test]
+fn queries_are_written_and_their_replies_read() {
+    let (mut query, mut reply) = ([9; 501], [0; 648]);
+    let told = query_by_address(5, 0x0a00_0001, 0x0a00_0007, &mut query);
+    assert_eq!((told.refusal, told.length), (0, 244));
+    assert_eq!(query[12..16], [10, 0, 0, 7]);
+    assert_eq!(query[244], 9);
+    let told = query_by_address(5, 0x0a00_0001, 0, &mut query);
+    assert_eq!((told.refusal, told.length), (19, 0));
+    let told = query_by_hardware(5, 0x0a00_0001, 0, &[0; 16], &mut query);
+    assert_eq!((told.refusal, told.length), (0, 244));
+    let told = query_by_hardware(5, 0x0a00_0001, 0, &[0; 16], &mut query[..500]);
+    assert_eq!((told.refusal, told.length), (32, 0));
+    let told = query_by_client_id(5, 0, b"oboe", &mut query);
+    assert_eq!((told.refusal, told.length), (19, 0));
+    let told = query_by_client_id(5, 0x0a00_0001, b"oboe", &mut query);
+    assert_eq!((told.refusal, told.length), (0, 250));
+
+    let answer = lease_query(Moment(1000), &[], 0x0a00_0002, &query[..250], &mut reply);
+    let reply = &reply[..answer.length as usize];
+    let told = lease_reply_read(5, reply);
+    assert_eq!((told.refusal, told.kind), (0, LEASEUNKNOWN));
+    let blank = LeaseReading { kind: 0, ..told };
+    assert_eq!((blank.has_left, blank.has_since, blank.count), (0, 0, 0));
+    let other = lease_reply_read(6, reply);
+    assert_eq!(
+        other,
+        LeaseReading {
+            refusal: 21,
+            ..blank
+        }
+    );
+    let cut = lease_reply_read(6, &reply[..239]);
+    assert_eq!(
+        cut,
+        LeaseReading {
+            refusal: 20,
+            ..blank
+        }
+    );
+}
+
+#[test]
 fn what_stands_at_a_name_is_found() {
     let zone = held();
     let found = zone_find(&zone, &pipe7());

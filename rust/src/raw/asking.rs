@@ -14,8 +14,8 @@ pub struct QueryAnswer {
     pub length: u32,
 }
 
-/// What [`lease_reply_read`](super::lease_reply_read()) answers. Beside a refusal every other number
-/// is 0.
+/// What [`lease_reply_read`](super::lease_reply_read()) answers. Beside a refusal every other
+/// number is 0.
 #[repr(C)]
 #[derive(Clone, Copy, PartialEq, Eq, Debug)]
 pub struct LeaseReading {

@@ -276,10 +276,10 @@ pub fn lease_query(
     }
 }
 
-/// A query by an address, with addresses as numbers.
+/// [`crate::query_by_address`] with addresses as numbers.
 ///
 /// Refusals of this and of the two other queries, in the order in which they are tried: 19 a giaddr
-/// or a key that no server takes, or a client id of over 255 octets; 32 a buffer of under 501 octets.
+/// or a key that no server takes, or a client id of over 255 octets; 32 a buffer of under 501.
 #[inline]
 pub fn query_by_address(xid: u32, giaddr: u32, address: u32, query: &mut [u8]) -> QueryAnswer {
     // SAFETY: the pointer comes from a slice that outlives the call, with that slice's length; a
@@ -287,7 +287,7 @@ pub fn query_by_address(xid: u32, giaddr: u32, address: u32, query: &mut [u8]) -
     unsafe { c::jespurla_query_by_address(xid, giaddr, address, query.as_mut_ptr(), query.len()) }
 }
 
-/// A query by a hardware address, with the giaddr as a number. Refusals as of [`query_by_address`].
+/// [`crate::query_by_hardware`] with the giaddr as a number. Refusals as of [`query_by_address`].
 #[inline]
 pub fn query_by_hardware(
     xid: u32,
@@ -311,7 +311,7 @@ pub fn query_by_hardware(
     }
 }
 
-/// A query by a client id, with the giaddr as a number. Refusals as of [`query_by_address`].
+/// [`crate::query_by_client_id`] with the giaddr as a number. Refusals as of [`query_by_address`].
 #[inline]
 pub fn query_by_client_id(xid: u32, giaddr: u32, id: &[u8], query: &mut [u8]) -> QueryAnswer {
     // SAFETY: as in query_by_hardware.
@@ -327,9 +327,9 @@ pub fn query_by_client_id(xid: u32, giaddr: u32, id: &[u8], query: &mut [u8]) ->
     }
 }
 
-/// What stands in the reply to a lease query with this xid.
+/// [`crate::read_lease_reply`] with numbers.
 ///
-/// Refusals, in the order in which they are tried: 20 a malformed reply; 21 a reply with another xid.
+/// Refusals, in the order in which they are tried: 20 a malformed reply; 21 one with another xid.
 #[inline]
 pub fn lease_reply_read(xid: u32, reply: &[u8]) -> LeaseReading {
     // SAFETY: the pointer comes from a slice that outlives the call, with that slice's length; a
