@@ -31,6 +31,7 @@ int main(int count, char **arguments)
     show_name_options();
     show_server_list();
     show_lease_queries();
+    show_written_queries();
     show_requests();
     show_lookups();
     show_jobs();

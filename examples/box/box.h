@@ -3,11 +3,13 @@
 #define BOX_H
 
 #include "jespurla.h"
+#include "table.h"
 
 /* The parts of the example, in the order in which they are shown. */
 void show_name_options(void);
 void show_server_list(void);
 void show_lease_queries(void);
+void show_written_queries(void);
 void show_requests(void);
 void show_lookups(void);
 void show_jobs(void);
@@ -34,7 +36,9 @@ uint32_t number_at(const uint8_t *octets);
 void print_count(unsigned long count, const char *what);
 void print_name(const uint8_t *name, size_t length);
 void print_hex(const uint8_t *octets, size_t length);
+void print_hardware(const uint8_t *octets, size_t length);
 void print_address4(const uint8_t *octets);
+void print_number4(uint32_t address);
 void print_address6(const uint8_t *octets);
 
 /* reply.c: the name of a reply's kind, and a reply field by field. */

@@ -28,12 +28,6 @@ const char *kind_text(uint32_t kind)
     }
 }
 
-static void print_hardware(const uint8_t *octets, size_t length)
-{
-    for (size_t i = 0; i < length; i++)
-        printf("%s%02x", i == 0 ? "" : ":", octets[i]);
-}
-
 static void print_fixed(const uint8_t *reply)
 {
     printf("    op %u, xid 0x%08x", reply[OP], (unsigned)number_at(reply + XID));
@@ -42,8 +36,6 @@ static void print_fixed(const uint8_t *reply)
     printf(", giaddr ");
     print_address4(reply + GIADDR);
     printf("\n    htype %u, hlen %u, chaddr ", reply[HTYPE], reply[HLEN]);
-    if (reply[HLEN] == 0)
-        printf("none");
     print_hardware(reply + CHADDR, reply[HLEN]);
     puts("");
 }

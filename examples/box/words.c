@@ -54,10 +54,27 @@ void print_hex(const uint8_t *octets, size_t length)
         printf("%02x", octets[i]);
 }
 
+/* A hardware address, which may have no octets. */
+void print_hardware(const uint8_t *octets, size_t length)
+{
+    if (length == 0)
+        printf("none");
+    for (size_t i = 0; i < length; i++)
+        printf("%s%02x", i == 0 ? "" : ":", octets[i]);
+}
+
 void print_address4(const uint8_t *octets)
 {
     char text[INET_ADDRSTRLEN];
     printf("%s", inet_ntop(AF_INET, octets, text, sizeof text) ? text : "no address");
+}
+
+/* An address as the library has it, a number. */
+void print_number4(uint32_t address)
+{
+    const uint8_t octets[4] = { (uint8_t)(address >> 24), (uint8_t)(address >> 16),
+                                (uint8_t)(address >> 8), (uint8_t)address };
+    print_address4(octets);
 }
 
 /* Compressed, as RFC 5952 has it. */

@@ -9,7 +9,6 @@
 //! no zone. Structs that can be compared with `==` here are compared field by field, whether the
 //! library looks at a field or not. Zones can't: [`zone_same`] says whether two mean the same.
 
-mod asking;
 #[allow(unsafe_code)]
 mod calls;
 mod job;
@@ -17,14 +16,15 @@ mod layout;
 mod lease;
 mod moment;
 mod name_option;
+mod query;
 mod server_list;
 mod zone;
 
-pub use asking::*;
 pub use calls::*;
 pub use job::*;
 pub use lease::*;
 pub use moment::{Moment, Span};
 pub use name_option::*;
+pub use query::*;
 pub use server_list::*;
 pub use zone::*;
