@@ -1,0 +1,20 @@
+/* What boxd and desk have in common: ports of the loopback address, and how they end. */
+#ifndef UDP_H
+#define UDP_H
+
+#include <netinet/in.h>
+#include <stdint.h>
+
+/* The name of the program, which each defines. */
+extern const char program[];
+
+/* Ends the program with status 1, saying what failed and the text of errno. */
+_Noreturn void stop(const char *what);
+
+/* Whether the text is the number of a port, 0 to 65535, in decimal digits. */
+int read_port(const char *text, uint16_t *port);
+
+/* A port of 127.0.0.1. */
+struct sockaddr_in loopback(uint16_t port);
+
+#endif

@@ -1,0 +1,165 @@
+"""What boxd and desk do with wrong arguments and on a network that is not kind.
+
+Usage: network.py FOLDER, the one that has the two programs.
+"""
+
+import random
+import resource
+import socket
+import subprocess
+import sys
+import threading
+import time
+
+from programs import Programs
+
+NO_REPLY = "no reply within a second"
+HERE = "127.0.0.1"
+
+
+def opened():
+    """A UDP socket at a free port."""
+    made = socket.socket(socket.AF_INET, socket.SOCK_DGRAM)
+    made.bind((HERE, 0))
+    made.settimeout(10)
+    return made
+
+
+def wrong_arguments(programs):
+    """The usage on standard error, status 2."""
+    wrong = {
+        "boxd": [[], ["x"], [""], ["-1"], ["65536"], ["0x10"], ["--what", "0"], ["0", "0"],
+                 ["--mute"], ["--mute", "--mute", "0"]],
+        "desk": [[], ["0"], ["x"], ["65536"], ["9", "oboe"], ["9", "client"], ["9", "name=oboe"],
+                 ["9", "hardware=0"], ["9", "hardware=02:"], ["9", "hardware=02:0g"],
+                 ["9", "hardware=0200"], ["9", "hardware=" + ":".join(["02"] * 33)],
+                 ["9", "address=10.0.0"], ["9", "address=10.0.0.256"]],
+    }
+    for name, lists in wrong.items():
+        for arguments in lists:
+            status, out, err = programs.run(name, *arguments)
+            assert (status, out) == (2, ""), (name, arguments, status, out)
+            assert err.startswith(f"usage: {name} "), (name, arguments, err)
+
+
+def system_errors(programs):
+    """The text of errno, status 1."""
+    with opened() as taken:
+        status, _, err = programs.run("boxd", taken.getsockname()[1])
+    assert (status, err) == (1, "boxd: bind: Address already in use\n"), (status, err)
+    for name, arguments in [("boxd", ["0"]), ("desk", ["9", "client=o"])]:
+        with open("/dev/full", "w", encoding="ascii") as full:
+            command = [f"{programs.folder}/{name}", *arguments]
+            ended = subprocess.run(command, stdout=full, stderr=subprocess.PIPE, text=True,
+                                   timeout=20, check=False)
+        expected = f"{name}: standard output: No space left on device\n"
+        assert (ended.returncode, ended.stderr) == (1, expected), (name, ended)
+
+
+def keys_refused(programs):
+    """What no server takes is refused by the library, not by the arguments."""
+    keys = ["client=", "client=o", "client=" + 256 * "o", "hardware=", "address=0.0.0.0",
+            "hardware=" + ":".join(["02"] * 17)]
+    status, out, err = programs.desk(9, *keys)
+    assert (status, out.count("refused 19"), err) == (1, len(keys), ""), (status, out, err)
+
+
+def sound_query():
+    """A query by the address 10.0.0.8."""
+    query = bytearray(240)
+    query[0], query[12:16], query[24] = 1, bytes([10, 0, 0, 8]), 127
+    query[236:] = bytes([99, 130, 83, 99, 53, 1, 10, 255])
+    return bytes(query)
+
+
+def packets_that_are_none(programs):
+    """Each is dropped with a line on standard error, and the box answers the query behind it."""
+    chance = random.Random(4388)
+    packets = [b"", b"\1", bytes(240), bytes(1500), bytes(1501), bytes(9000)]
+    packets += [chance.randbytes(chance.randrange(1600)) for _ in range(200)]
+    with programs.boxd() as box, opened() as sender:
+        for packet in packets:
+            sender.sendto(packet, (HERE, box.port))
+            sender.sendto(sound_query(), (HERE, box.port))
+            assert sender.recv(2000)[12:16] == bytes([10, 0, 0, 8]), packet
+        status, out, _ = programs.desk(box.port)
+        assert (status, out.count("is held by")) == (0, 3), (status, out)
+    lines = box.said.splitlines()
+    assert len(lines) == len(packets), (len(lines), len(packets))
+    assert all(" is dropped: refused " in line for line in lines), lines
+    assert "a packet of 1501 octets is dropped: refused 1," in box.said
+
+
+def few_descriptors(programs):
+    """Many questions with room for few descriptors: each is given back."""
+    def limit():
+        resource.setrlimit(resource.RLIMIT_NOFILE, (12, 12))
+    with programs.boxd(preexec_fn=limit) as box:
+        status, out, err = programs.desk(box.port, *["client=oboe"] * 60, preexec_fn=limit)
+    assert (status, out.count("is held by"), err) == (0, 60, ""), (status, out, err)
+
+
+def replies(programs, query):
+    """The reply of a box to a query."""
+    with programs.boxd() as box, opened() as asker:
+        asker.sendto(query, (HERE, box.port))
+        return asker.recv(2000)
+
+
+def asked(programs, answer):
+    """What the desk prints at a port where `answer` is called with the socket, the query and the
+    desk's address; and the seconds that it took."""
+    with opened() as port:
+        def serve():
+            query, desk = port.recvfrom(2000)
+            answer(port, query, desk)
+        thread = threading.Thread(target=serve)
+        thread.start()
+        began = time.monotonic()
+        status, out, err = programs.desk(port.getsockname()[1], "client=oboe")
+        took = time.monotonic() - began
+        thread.join(20)
+    assert err == "", err
+    return status, out, took
+
+
+def patience(programs):
+    """No packet that is not the reply makes the desk wait longer than a second."""
+    def flood(port, query, desk):
+        wrong = bytearray(replies(programs, query))
+        wrong[4] ^= 1
+        until = time.monotonic() + 3
+        while time.monotonic() < until:
+            port.sendto(wrong, desk)
+            time.sleep(0.02)
+    status, out, took = asked(programs, flood)
+    assert status == 1 and NO_REPLY in out, (status, out)
+    assert out.count("refused 21") > 5 and 1 <= took < 2.5, (out, took)
+
+
+def replies_from_elsewhere(programs):
+    """The right reply from another port, or too late, is none."""
+    def elsewhere(_, query, desk):
+        with opened() as other:
+            other.sendto(replies(programs, query), desk)
+
+    def late(port, query, desk):
+        reply = replies(programs, query)
+        time.sleep(1.5)
+        port.sendto(reply, desk)
+    for answer in (elsewhere, late):
+        status, out, took = asked(programs, answer)
+        assert status == 1 and NO_REPLY in out, (answer, status, out)
+        assert "dropped" not in out and took >= 1, (answer, out, took)
+
+
+def main():
+    programs = Programs(sys.argv[1])
+    tests = [wrong_arguments, system_errors, keys_refused, packets_that_are_none, few_descriptors,
+             patience, replies_from_elsewhere]
+    for test in tests:
+        test(programs)
+    print(f"desk: {len(tests)} kinds of trouble are borne")
+
+
+main()
