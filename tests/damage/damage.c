@@ -25,6 +25,8 @@ static void pass(side chosen)
         turn_names();
         turn_servers();
         turn_leases();
+        turn_queries();
+        turn_readings();
         turn_zones();
         turn_jobs();
         turn_lent();

@@ -39,6 +39,10 @@ typedef enum {
     NAME_OPTION_ANSWER,
     SERVER_LIST,
     LEASE_QUERY,
+    QUERY_BY_ADDRESS,
+    QUERY_BY_HARDWARE,
+    QUERY_BY_CLIENT_ID,
+    LEASE_REPLY_READ,
     ZONE_CHECK,
     REQUEST_A,
     REQUEST_B,
@@ -93,10 +97,20 @@ void check_spelling(const jespurla_zone *before, const jespurla_name *name,
 void turn_names(void);
 void turn_servers(void);
 void turn_leases(void);
+void turn_queries(void);
+void turn_readings(void);
 void turn_zones(void);
 void turn_jobs(void);
 void turn_lent(void);
 void turn_lookups(void);
+
+/* leases.c: a sound record of the table, and the reply to a query from the table. */
+const jespurla_lease *some_record(void);
+jespurla_lease_answer reply_to(const uint8_t *query, size_t length,
+                               uint8_t reply[JESPURLA_LEASE_REPLY_MIN]);
+/* readings.c: has the box reply to a query that was written, which it must take, and keeps the
+ * reply for the next turn. */
+void keep_reply(uint32_t xid, const uint8_t *query, size_t length);
 
 /* zones.c: a zone that is sound mostly, and the refusals of what reads one. */
 extern const uint32_t zone_refusals[];

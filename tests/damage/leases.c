@@ -1,4 +1,4 @@
-/* The lease query call. */
+/* The lease query call, and the table that other files take records and replies from. */
 #include "damage.h"
 
 #include <string.h>
@@ -155,4 +155,18 @@ void turn_leases(void)
 {
     turn_table();
     turn_count();
+}
+
+const jespurla_lease *some_record(void)
+{
+    return &table[random_below(RECORDS)];
+}
+
+jespurla_lease_answer reply_to(const uint8_t *query, size_t length,
+                               uint8_t reply[JESPURLA_LEASE_REPLY_MIN])
+{
+    jespurla_moment clock = { random_below(4000) };
+    size_t count = one_in(4) ? random_below(20) : JESPURLA_LEASES_MAX;
+    return jespurla_lease_query(clock, table, count, (uint32_t)random_next(), query, length,
+                                reply, JESPURLA_LEASE_REPLY_MIN);
 }

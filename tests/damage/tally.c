@@ -6,6 +6,7 @@
 
 static const char *const names[CALLS] = {
     "flag_decision", "name_option_answer", "server_list", "lease_query",
+    "query_by_address", "query_by_hardware", "query_by_client_id", "lease_reply_read",
     "zone_check", "request_a", "request_b", "request_remove_address",
     "request_remove_name", "new_add", "new_remove", "job_step",
     "zone_check_lent", "request_a_lent", "request_b_lent", "request_remove_address_lent",
@@ -16,7 +17,7 @@ static const char *const names[CALLS] = {
 typedef struct {
     unsigned long answered, refused;
     unsigned long kinds[257];
-    unsigned long refusals[32];
+    unsigned long refusals[33];
     const uint32_t *listed;
 } counts;
 
@@ -75,7 +76,7 @@ bool tally_report(void)
         const counts *t = &tally[i];
         printf("%-28s%10lu%10lu\n", names[i], t->answered, t->refused);
         print_numbers("answers ", t->kinds, 257);
-        print_numbers("refusals", t->refusals, 32);
+        print_numbers("refusals", t->refusals, 33);
         if (!is_whole(t))
             puts("  NOT WHOLE");
         whole = whole && is_whole(t);

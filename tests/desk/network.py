@@ -134,7 +134,7 @@ def patience(programs):
             time.sleep(0.02)
     status, out, took = asked(programs, flood)
     assert status == 1 and NO_REPLY in out, (status, out)
-    assert out.count("refused 21") > 5 and 1 <= took < 2.5, (out, took)
+    assert out.count("refused 21") > 5 and 1 <= took < 2.5, took
 
 
 def replies_from_elsewhere(programs):
