@@ -53,7 +53,7 @@ static int open_port(uint16_t port)
         stop("bind");
     if (getsockname(at, (struct sockaddr *)&here, &size) != 0)
         stop("getsockname");
-    if (printf("%u\n", ntohs(here.sin_port)) < 0 || fflush(stdout) != 0)
+    if (printf("%u\n", (unsigned)ntohs(here.sin_port)) < 0 || fflush(stdout) != 0)
         stop("standard output");
     return at;
 }

@@ -407,8 +407,9 @@ typedef struct {
  *  - 61, of LEASEACTIVE alone: has 2 to 64 octets;
  *  - 82, of LEASEACTIVE alone: may be there once, with 1 to 64 octets;
  *  - 92, of LEASEACTIVE alone: may be there once, with 8 to 252 octets, a multiple of 4.
- * In the other two kinds the options of LEASEACTIVE are not looked at. The order of options does
- * not matter, nor does any other option; option 52 is not followed.
+ * In the other two kinds the options of LEASEACTIVE are not looked at, but that 61 twice is
+ * malformed there too. The order of options does not matter, nor does any other option; option 52
+ * is not followed.
  * A program that gets 20 or 21 drops the packet and goes on waiting for its reply, for as long as
  * it would have waited without it: whoever can send to it can send such packets.
  */

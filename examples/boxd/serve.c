@@ -10,8 +10,8 @@
 #include <string.h>
 #include <sys/socket.h>
 
-#define NOW 1000     /* the clock, which stands still */
-#define XID_END 7    /* the last octet of the xid */
+#define NOW 1000  /* the clock, which stands still */
+#define XID_END 7 /* where the last octet of the xid stands */
 
 /* A query and where it came from. There is room for one octet more than the library takes: a packet
  * that is too long must be seen to be so. */

@@ -3,7 +3,9 @@
 use std::net::Ipv6Addr;
 use std::thread;
 
+use jespurla::{lease_query, query_by_client_id, read_lease_reply};
 use jespurla::{Answer, Dhcid, Entry, Job, Name, Policy, Refusal, Stage, Standing, Zone};
+use jespurla::{Expiry, Lease, Moment};
 
 const X: Dhcid = Dhcid::new([b'X'; 35]);
 const HERE: Ipv6Addr = Ipv6Addr::LOCALHOST;
@@ -49,4 +51,31 @@ fn calls_on_a_zone_do_with_little_stack() {
     let work = move || calls(&mut zone, &other);
     let thread = thread::Builder::new().stack_size(16 * 1024).spawn(work);
     assert_eq!(thread.expect("a thread").join().expect("done"), Ok(()));
+}
+
+/// A query, the reply over a full table, and the 63 addresses that are read of it.
+fn ask(table: &[Lease]) -> Result<usize, Refusal> {
+    let (mut query, mut reply) = ([0; 501], [0; 648]);
+    let query = query_by_client_id(7, [10, 0, 0, 1].into(), &[3; 64], &mut query)?;
+    let reply = lease_query(
+        Moment::LATEST,
+        table,
+        [10, 0, 0, 2].into(),
+        query,
+        &mut reply,
+    )?;
+    let told = read_lease_reply(7, reply.as_bytes())?;
+    Ok(told.addresses().count())
+}
+
+#[test]
+fn lease_queries_do_with_little_stack() {
+    let leased = |number: u32| {
+        let lease = Lease::leased((number + 1).into(), Moment::LATEST, Expiry::Never);
+        lease.with_client_id(&[3; 64]).expect("64 octets")
+    };
+    let table: Vec<Lease> = (0..256).map(leased).collect();
+    let work = move || ask(&table);
+    let thread = thread::Builder::new().stack_size(16 * 1024).spawn(work);
+    assert_eq!(thread.expect("a thread").join().expect("done"), Ok(63));
 }

@@ -22,7 +22,7 @@ void keep_reply(uint32_t xid, const uint8_t *query, size_t length)
 static size_t put_option(uint8_t *reply, size_t at, uint8_t code)
 {
     static const uint8_t lengths[][4] = {
-        { 53, 1, 1, 1 }, { 54, 4, 4, 4 }, { 51, 4, 4, 4 },    { 91, 4, 4, 4 },
+        { 53, 1, 1, 1 },  { 54, 4, 4, 4 },  { 51, 4, 4, 4 },    { 91, 4, 4, 4 },
         { 61, 2, 9, 64 }, { 82, 1, 9, 64 }, { 92, 8, 20, 252 }, { 100, 0, 3, 30 },
     };
     size_t row = 0, length;
@@ -36,21 +36,29 @@ static size_t put_option(uint8_t *reply, size_t at, uint8_t code)
     return at + 2 + length;
 }
 
-/* A reply with options in another order, some of them missing or twice. Answers its length. */
-static size_t some_reply(uint32_t xid, uint8_t *reply)
+/* The fields that every reply needs; the others have any octets. */
+static void start_reply(uint32_t xid, uint8_t *reply)
 {
-    static const uint8_t codes[] = { 53, 54, 51, 91, 61, 82, 92, 100 };
     static const uint8_t cookie[] = { 99, 130, 83, 99 };
-    size_t at = 240, first = random_below(sizeof codes);
     random_fill(reply, PACKET_ROOM);
     reply[0] = 2;
     reply[2] = (uint8_t)random_below(one_in(16) ? 256 : 17);
     for (int i = 0; i < 4; i++)
         reply[4 + i] = (uint8_t)(xid >> (24 - 8 * i));
     memcpy(reply + 236, cookie, sizeof cookie);
-    for (size_t i = 0; i < sizeof codes; i++)
-        if (!one_in(i < 4 ? 64 : 3))
-            at = put_option(reply, at, codes[(first + i) % sizeof codes]);
+}
+
+/* A reply with options in another order, some of them missing or twice. Answers its length. */
+static size_t some_reply(uint32_t xid, uint8_t *reply)
+{
+    static const uint8_t codes[] = { 53, 54, 51, 91, 61, 82, 92, 100 };
+    size_t at = 240, first = random_below(sizeof codes);
+    start_reply(xid, reply);
+    for (size_t i = 0; i < sizeof codes; i++) {
+        size_t next = (first + i) % sizeof codes;
+        if (!one_in(next < 4 ? 64 : 3))
+            at = put_option(reply, at, codes[next]);
+    }
     if (one_in(32))
         at = put_option(reply, at, codes[random_below(sizeof codes)]);
     reply[at++] = 255;

@@ -99,54 +99,77 @@ def few_descriptors(programs):
     assert (status, out.count("is held by"), err) == (0, 60, ""), (status, out, err)
 
 
-def replies(programs, query):
-    """The reply of a box to a query."""
-    with programs.boxd() as box, opened() as asker:
-        asker.sendto(query, (HERE, box.port))
-        return asker.recv(2000)
+class Replies:
+    """The reply of a box, which is made to fit any query for the same."""
+
+    def __init__(self, programs):
+        with programs.boxd() as box, opened() as asker:
+            asker.sendto(sound_query(), (HERE, box.port))
+            self.sound = asker.recv(2000)
+
+    def to(self, query):
+        return self.sound[:4] + query[4:8] + self.sound[8:]
+
+    def to_another(self, query):
+        other = bytes([query[4] ^ 1]) + query[5:8]
+        return self.sound[:4] + other + self.sound[8:]
 
 
 def asked(programs, answer):
-    """What the desk prints at a port where `answer` is called with the socket, the query and the
-    desk's address; and the seconds that it took."""
+    """What the desk prints at a port where `answer` is called with the socket, the query, the desk's
+    address and an event that says that the desk has ended; and the seconds that it took."""
     with opened() as port:
+        ended = threading.Event()
+
         def serve():
             query, desk = port.recvfrom(2000)
-            answer(port, query, desk)
+            answer(port, query, desk, ended)
         thread = threading.Thread(target=serve)
         thread.start()
         began = time.monotonic()
-        status, out, err = programs.desk(port.getsockname()[1], "client=oboe")
+        status, out, err = programs.desk(port.getsockname()[1], "address=10.0.0.8")
         took = time.monotonic() - began
+        ended.set()
         thread.join(20)
     assert err == "", err
     return status, out, took
 
 
+def the_reply(programs):
+    """What follows is about replies that the desk takes, were they the right ones."""
+    reply = Replies(programs)
+
+    def right(port, query, desk, _):
+        port.sendto(reply.to(query), desk)
+    status, out, _ = asked(programs, right)
+    assert status == 0 and "10.0.0.8 is held by" in out, (status, out)
+
+
 def patience(programs):
     """No packet that is not the reply makes the desk wait longer than a second."""
-    def flood(port, query, desk):
-        wrong = bytearray(replies(programs, query))
-        wrong[4] ^= 1
-        until = time.monotonic() + 3
-        while time.monotonic() < until:
-            port.sendto(wrong, desk)
-            time.sleep(0.02)
+    reply = Replies(programs)
+
+    def flood(port, query, desk, ended):
+        until = time.monotonic() + 8
+        while time.monotonic() < until and not ended.wait(0.02):
+            port.sendto(reply.to_another(query), desk)
     status, out, took = asked(programs, flood)
-    assert status == 1 and NO_REPLY in out, (status, out)
-    assert out.count("refused 21") > 5 and 1 <= took < 2.5, took
+    assert status == 1 and NO_REPLY in out, status
+    assert out.count("refused 21") > 5 and 1 <= took < 6, took
 
 
 def replies_from_elsewhere(programs):
     """The right reply from another port, or too late, is none."""
-    def elsewhere(_, query, desk):
-        with opened() as other:
-            other.sendto(replies(programs, query), desk)
+    reply = Replies(programs)
 
-    def late(port, query, desk):
-        reply = replies(programs, query)
-        time.sleep(1.5)
-        port.sendto(reply, desk)
+    def elsewhere(_, query, desk, ended):
+        with opened() as other:
+            other.sendto(reply.to(query), desk)
+            ended.wait(10)
+
+    def late(port, query, desk, ended):
+        ended.wait(10)
+        port.sendto(reply.to(query), desk)
     for answer in (elsewhere, late):
         status, out, took = asked(programs, answer)
         assert status == 1 and NO_REPLY in out, (answer, status, out)
@@ -156,7 +179,7 @@ def replies_from_elsewhere(programs):
 def main():
     programs = Programs(sys.argv[1])
     tests = [wrong_arguments, system_errors, keys_refused, packets_that_are_none, few_descriptors,
-             patience, replies_from_elsewhere]
+             the_reply, patience, replies_from_elsewhere]
     for test in tests:
         test(programs)
     print(f"desk: {len(tests)} kinds of trouble are borne")
