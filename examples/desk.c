@@ -3,8 +3,8 @@
  *
  * Usage: desk PORT [client=TEXT | hardware=HH:HH:.. | address=A.B.C.D] ..
  * The box is at this UDP port of the loopback address (examples/boxd.c). Without a question the
- * desk asks three, one by each key. A reply that is malformed or has another xid is dropped, and the
- * desk goes on waiting for the right one, for a second in all.
+ * desk asks three, one by each key. A reply that is malformed or has another xid is dropped, and
+ * the desk goes on waiting for the right one, for a second in all.
  *
  * Exit status: 0 where every question had a reply; 1 where one had none or could not be asked, or
  * where a system call failed; 2 after wrong arguments.

@@ -58,7 +58,7 @@ static reply answer_of(const query *q)
     return r;
 }
 
-/* Both times are spans, counted from when the box wrote the reply. Only an active lease has them. */
+/* Both are spans, counted from when the box wrote the reply. Only an active lease has them. */
 static void print_times(const jespurla_lease_reading *told)
 {
     if (told->has_left && told->left.seconds == UINT32_MAX)

@@ -1,6 +1,6 @@
 //! The core of an address box: lease queries, answered and asked (RFC 4388), the DHCPv6 name option
-//! (RFC 4704), the DNS servers that routers announce (RFC 5006), and the players' names in a DNS zone
-//! that several boxes share (RFC 4703). It opens no sockets and keeps no state of its own.
+//! (RFC 4704), the DNS servers that routers announce (RFC 5006), and the players' names in a DNS
+//! zone that several boxes share (RFC 4703). It opens no sockets and keeps no state of its own.
 //!
 //! The calls are those of `libjespurla.a`, each proved to meet its promise. Every call takes every
 //! value of its arguments, returns, and reads and writes only what it was lent.

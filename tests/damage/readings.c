@@ -3,7 +3,7 @@
 
 #include <string.h>
 
-#define PACKET_ROOM 1600
+#define PACKET_ROOM 2600 /* enough for nine options of any length */
 
 /* The last reply to a query that was written, and the xid of that query. */
 static uint8_t kept[JESPURLA_LEASE_REPLY_MIN];

@@ -116,8 +116,8 @@ class Replies:
 
 
 def asked(programs, answer):
-    """What the desk prints at a port where `answer` is called with the socket, the query, the desk's
-    address and an event that says that the desk has ended; and the seconds that it took."""
+    """What the desk prints at a port where `answer` is called with the socket, the query, the
+    desk's address and an event that says that the desk has ended; and the seconds that it took."""
     with opened() as port:
         ended = threading.Event()
 
