@@ -5,48 +5,22 @@
 
 use std::cmp::Reverse;
 
+use crate::packet::{
+    is_packet, number_at, walk_options, Writer, ASSOCIATED_IP, ASSOCIATED_MAX, CHADDR, CIADDR,
+    CLIENT_ID, COOKIE, END, FLAGS, GIADDR, HLEN, HTYPE, LAST_TRANSACTION, LEASEQUERY, LEASE_TIME,
+    MAGIC, MESSAGE_TYPE, OP, OPTIONS, RELAY_INFORMATION, REPLY, REQUEST, SERVER_ID, XID,
+};
 use crate::{is_expiry, LATEST_MOMENT, NEVER};
 
 /// Records a table may have.
 pub const TABLE_MAX: usize = 256;
 /// Least room for a reply: the fixed fields and the longest options.
 pub const REPLY_MIN: usize = 648;
-/// Bounds of a query's length.
-const QUERY_MIN: usize = 240;
-const QUERY_MAX: usize = 1_500;
-
-/// Offsets of the fixed fields (RFC 2131).
-const HTYPE: usize = 1;
-const HLEN: usize = 2;
-const XID: usize = 4;
-const FLAGS: usize = 10;
-const CIADDR: usize = 12;
-const GIADDR: usize = 24;
-const CHADDR: usize = 28;
-const COOKIE: usize = 236;
-const OPTIONS: usize = 240;
-
-const MAGIC: [u8; 4] = [99, 130, 83, 99];
-
-/// Option codes, and the DHCPLEASEQUERY message type.
-const PAD: u8 = 0;
-const LEASE_TIME: u8 = 51;
-const MESSAGE_TYPE: u8 = 53;
-const SERVER_ID: u8 = 54;
-const CLIENT_ID: u8 = 61;
-const RELAY_INFORMATION: u8 = 82;
-const LAST_TRANSACTION: u8 = 91;
-const ASSOCIATED_IP: u8 = 92;
-const END: u8 = 255;
-const LEASEQUERY: u8 = 10;
-
 /// Message types of the replies.
 pub const LEASEUNASSIGNED: u8 = 11;
 pub const LEASEUNKNOWN: u8 = 12;
 pub const LEASEACTIVE: u8 = 13;
 
-/// Addresses one option 92 can carry.
-const ASSOCIATED_MAX: usize = 63;
 /// Option 51 keeps its greatest number for leases without end.
 const LONGEST_SPAN: u64 = u32::MAX as u64 - 1;
 
@@ -144,33 +118,26 @@ struct Options<'a> {
 
 /// Walks the options up to the end option; refusal 3 where they are cut or
 /// one of the two that are read comes twice.
-fn read_options(mut area: &[u8]) -> Result<Options<'_>, u8> {
+fn read_options(area: &[u8]) -> Result<Options<'_>, u8> {
     let mut options = Options::default();
-    loop {
-        let (&code, rest) = area.split_first().ok_or(3)?;
-        area = rest;
-        if code == END {
-            return Ok(options);
-        }
-        if code == PAD {
-            continue;
-        }
-        let (&length, rest) = area.split_first().ok_or(3)?;
-        let (value, rest) = rest.split_at_checked(usize::from(length)).ok_or(3)?;
-        area = rest;
+    let mut repeated = false;
+    let whole = walk_options(area, |code, value| {
         let before = match code {
             MESSAGE_TYPE => options.message_type.replace(value),
             CLIENT_ID => options.client_id.replace(value),
             _ => None,
         };
-        if before.is_some() {
-            return Err(3);
-        }
+        repeated |= before.is_some();
+    });
+    if whole && !repeated {
+        Ok(options)
+    } else {
+        Err(3)
     }
 }
 
-/// What the query asks by.
-enum Key<'a> {
+/// What a query asks by.
+pub(crate) enum Key<'a> {
     Address(u32),
     Hardware { htype: u8, address: &'a [u8] },
     ClientId(&'a [u8]),
@@ -208,16 +175,12 @@ fn read_key<'a>(query: &'a [u8], client_id: Option<&'a [u8]>) -> Result<Key<'a>,
     }
 }
 
-fn number_at(octets: &[u8], at: usize) -> u32 {
-    u32::from_be_bytes(octets[at..at + 4].try_into().expect("four octets"))
-}
-
 /// Refusals 1 to 7 in their order, or the query's key.
 fn read_query(query: &[u8]) -> Result<Key<'_>, u8> {
-    if query.len() < QUERY_MIN || query.len() > QUERY_MAX || query[COOKIE..OPTIONS] != MAGIC {
+    if !is_packet(query) {
         return Err(1);
     }
-    if query[0] != 1 {
+    if query[OP] != REQUEST {
         return Err(2);
     }
     let options = read_options(&query[OPTIONS..])?;
@@ -260,29 +223,14 @@ impl Ranking {
     }
 }
 
-/// A reply being written from its front.
-struct Writer<'a> {
-    reply: &'a mut [u8],
-    at: usize,
-}
-
+/// What a reply is written of.
 impl Writer<'_> {
-    fn octets(&mut self, octets: &[u8]) {
-        self.reply[self.at..self.at + octets.len()].copy_from_slice(octets);
-        self.at += octets.len();
-    }
-
-    fn option(&mut self, code: u8, value: &[u8]) {
-        self.octets(&[code, value.len() as u8]);
-        self.octets(value);
-    }
-
     /// The fixed fields; the client's come from the active record or, if
     /// there is none, from the query.
     fn fixed(&mut self, query: &[u8], lease: Option<&Lease>) {
-        let reply = &mut self.reply[..OPTIONS];
+        let reply = &mut self.packet[..OPTIONS];
         reply.fill(0);
-        reply[0] = 2;
+        reply[OP] = REPLY;
         for field in [XID..XID + 4, FLAGS..FLAGS + 2, GIADDR..GIADDR + 4] {
             reply[field.clone()].copy_from_slice(&query[field]);
         }
@@ -346,7 +294,10 @@ pub fn answer(
         return Err(8);
     }
     let key = read_query(query)?;
-    let mut writer = Writer { reply, at: 0 };
+    let mut writer = Writer {
+        packet: reply,
+        at: 0,
+    };
     let kind = match key {
         Key::Address(address) => by_address(&mut writer, now, table, server, query, address),
         _ => by_client(&mut writer, now, table, server, query, &key),
