@@ -4,18 +4,17 @@ mod common;
 
 use common::faults::{first, has_another, number};
 use common::leases::{self, Client};
-use common::lent::afresh;
 use common::moments::no_clock;
 use common::product::lease_answer;
 use common::queries::Query;
-use common::random::{from_both_seeds, Random};
+use common::random::from_both_seeds;
 use common::run::Run;
 use common::stack::on_a_stack;
+use common::tables::Tables;
 use common::tally::Tally;
-use common::twin::Twin;
 use jespurla::raw::{self, LeaseAnswer, Moment};
 use second::lease_query::{answer, Lease, REPLY_MIN};
-use second::{LATEST_MOMENT, NEVER};
+use second::NEVER;
 
 /// Queries compared by one run, at the least.
 const QUERIES: usize = 400_000;
@@ -115,33 +114,9 @@ struct Case {
     faults: Option<Vec<&'static str>>,
 }
 
-/// A table as each program reads it, with a record before and behind that
-/// aren't lent.
-struct Tables {
-    second: Vec<Lease>,
-    product: Vec<raw::Lease>,
-    untouched: Vec<raw::Lease>,
-}
-
-impl Tables {
-    fn new(random: &mut Random, second: Vec<Lease>) -> Tables {
-        let (front, back) = (leases::record(random), leases::record(random));
-        let product = [&[front], &second[..], &[back]].concat().twin();
-        Tables {
-            untouched: product.clone(),
-            second,
-            product,
-        }
-    }
-
-    fn lent(&self) -> &[raw::Lease] {
-        &self.product[1..][..self.second.len()]
-    }
-}
-
 impl Run<2> {
     /// Runs both programs on one case and compares the whole memories.
-    fn compare(&mut self, tables: &mut Tables, case: &Case) {
+    fn compare(&mut self, tables: &Tables, case: &Case) {
         let lengths = [case.packet.len(), case.reply_len];
         self.memory
             .lay_out(&mut self.random, lengths, &[&case.packet]);
@@ -190,14 +165,6 @@ impl Run<2> {
         }
     }
 
-    /// The moment of a case, sound; mostly the one the table was made about.
-    fn clock(&mut self, about: u64) -> u64 {
-        match self.random.below(4) {
-            0 => (about + self.random.below(4) as u64).min(LATEST_MOMENT),
-            _ => about,
-        }
-    }
-
     /// A case with the planted faults of these numbers.
     fn case(&mut self, about: u64, table: &[Lease], clients: &[Client], numbers: &[u8]) -> Case {
         let random = &mut self.random;
@@ -217,7 +184,7 @@ impl Run<2> {
             case.reply_len = random.pick(&[0, 1, 240, 271, 300, 647, 647]);
             faults.push("8: reply buffer");
         }
-        case.now = self.clock(about);
+        case.now = leases::clock(&mut self.random, about);
         if numbers.contains(&15) {
             case.now = no_clock(&mut self.random);
             faults.push("15: clock");
@@ -233,16 +200,9 @@ impl Run<2> {
         (0..count).map(|_| self.random.pick(&others)).collect()
     }
 
-    /// A moment for a table to be made about.
-    fn about(&mut self) -> u64 {
-        let any = self.random.next() & LATEST_MOMENT;
-        let late = LATEST_MOMENT - self.random.below(1_000) as u64;
-        self.random.pick(&[0, 1_000, any, any, late, 1 << 33])
-    }
-
     /// Many queries of one table; at times the table is broken.
     fn group(&mut self) {
-        let about = self.about();
+        let about = leases::about(&mut self.random);
         let clients = leases::clients(&mut self.random);
         let mut table = leases::table(&mut self.random, &clients, about);
         let broken = self.random.one_in(3);
@@ -256,12 +216,12 @@ impl Run<2> {
             }
             cases.push(case);
         }
-        let mut tables = Tables::new(&mut self.random, table);
-        self.ask_all(&mut tables, &cases);
+        let tables = Tables::new(&mut self.random, table);
+        self.ask_all(&tables, &cases);
     }
 
     /// All cases of one table, at times on a small stack.
-    fn ask_all(&mut self, tables: &mut Tables, cases: &[Case]) {
+    fn ask_all(&mut self, tables: &Tables, cases: &[Case]) {
         if self.random.one_in(4) {
             cases
                 .iter()
@@ -272,15 +232,12 @@ impl Run<2> {
         } else {
             cases.iter().for_each(|case| self.compare(tables, case));
         }
-        assert!(
-            *afresh(&tables.product) == tables.untouched,
-            "a table was written"
-        );
+        tables.assert_untouched();
     }
 
     /// Every octet of a sound query changed, one at a time, and every cut.
     fn damage(&mut self) {
-        let about = self.about();
+        let about = leases::about(&mut self.random);
         let clients = leases::clients(&mut self.random);
         let mut table = leases::table(&mut self.random, &clients, about);
         table.truncate(20);
@@ -300,8 +257,8 @@ impl Run<2> {
             case.packet.pop();
             cases.push(case.clone());
         }
-        let mut tables = Tables::new(&mut self.random, table);
-        self.ask_all(&mut tables, &cases);
+        let tables = Tables::new(&mut self.random, table);
+        self.ask_all(&tables, &cases);
     }
 
     fn whole(mut self) {

@@ -181,6 +181,21 @@ pub fn table(random: &mut Random, clients: &[Client], now: u64) -> Vec<Lease> {
     table
 }
 
+/// A moment for a table to be made about.
+pub fn about(random: &mut Random) -> u64 {
+    let any = random.next() & LATEST_MOMENT;
+    let late = LATEST_MOMENT - random.below(1_000) as u64;
+    random.pick(&[0, 1_000, any, any, late, 1 << 33])
+}
+
+/// A sound clock for a case; mostly the moment the table was made about.
+pub fn clock(random: &mut Random, about: u64) -> u64 {
+    match random.below(4) {
+        0 => (about + random.below(4) as u64).min(LATEST_MOMENT),
+        _ => about,
+    }
+}
+
 /// Breaks a record's form in one way.
 type Plant = fn(&mut Random, &mut Lease);
 

@@ -4,6 +4,7 @@
 
 pub mod areas;
 pub mod bind;
+pub mod desk_keys;
 pub mod faults;
 pub mod jobs;
 pub mod leases;
@@ -16,11 +17,14 @@ pub mod pipe;
 pub mod product;
 pub mod queries;
 pub mod random;
+pub mod replies;
+pub mod reply_faults;
 pub mod requests;
 pub mod run;
 pub mod stack;
 pub mod step_list;
 pub mod step_log;
+pub mod tables;
 pub mod tally;
 pub mod twin;
 pub mod variants;

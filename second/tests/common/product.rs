@@ -2,9 +2,10 @@
 //! product's numbers.
 
 use jespurla::raw::{
-    self, Address, Answered, Dhcid, FindAnswer, FlagAnswer, Job, LeaseAnswer, NameAnswer, NewJob,
-    RequestAnswer, SameAnswer, StepAnswer, Zone,
+    self, Address, Answered, Dhcid, FindAnswer, FlagAnswer, Job, LeaseAnswer, LeaseReading,
+    NameAnswer, NewJob, QueryAnswer, RequestAnswer, SameAnswer, Span, StepAnswer, Zone,
 };
+use second::desk_reply::{Reading, ASSOCIATED_MAX};
 use second::zone;
 
 use super::requests::{Kind, Reply, Request};
@@ -187,6 +188,46 @@ pub fn lease_answer(result: Result<(u8, usize), u8>) -> LeaseAnswer {
         refusal: refusal(&result),
         kind: u32::from(kind),
         length: length as u32,
+    }
+}
+
+/// The answer that a result of writing a query stands for.
+pub fn query_answer(result: Result<usize, u8>) -> QueryAnswer {
+    QueryAnswer {
+        refusal: refusal(&result),
+        length: result.map_or(0, |length| length as u32),
+    }
+}
+
+/// What is said where a reply is refused, the number aside.
+const NO_READING: Reading = Reading {
+    kind: 0,
+    address: 0,
+    htype: 0,
+    hlen: 0,
+    chaddr: [0; 16],
+    left: None,
+    since: None,
+    addresses: [0; ASSOCIATED_MAX],
+    count: 0,
+};
+
+/// The answer that a result of reading a reply stands for.
+pub fn lease_reading(result: Result<Reading, u8>) -> LeaseReading {
+    let reading = result.unwrap_or(NO_READING);
+    LeaseReading {
+        refusal: refusal(&result),
+        kind: u32::from(reading.kind),
+        address: reading.address,
+        has_left: u32::from(reading.left.is_some()),
+        left: Span(reading.left.unwrap_or(0)),
+        has_since: u32::from(reading.since.is_some()),
+        since: Span(reading.since.unwrap_or(0)),
+        count: reading.count as u32,
+        addresses: reading.addresses,
+        chaddr: reading.chaddr,
+        htype: reading.htype,
+        hlen: reading.hlen,
     }
 }
 

@@ -1,0 +1,293 @@
+//! A query that the desk writes, the box's reply to it, and what the desk
+//! reads there: by the product and by the second program. Both read what the
+//! lease table says.
+
+mod common;
+
+use common::desk_keys::Key;
+use common::leases::{self, Client};
+use common::product::lease_reading;
+use common::random::{from_both_seeds, Random};
+use common::run::Run;
+use common::stack::on_a_stack;
+use common::tables::Tables;
+use jespurla::raw::{self, Moment};
+use second::desk_query::QUERY_MIN;
+use second::desk_reply::{read, Reading, ASSOCIATED_MAX};
+use second::lease_query::{answer, Lease, REPLY_MIN};
+use second::NEVER;
+
+/// Round trips of one run, at the least.
+const TRIPS: usize = 200_000;
+/// Cases of each kind, at the least.
+const EACH: usize = 1_000;
+/// The stack of a thread on which the calls must run.
+const SMALL_STACK: usize = 16 * 1024;
+/// Fixed fields that the box copies or ignores: hops; secs and flags; yiaddr
+/// and siaddr; sname and file.
+const UNREAD: [(usize, usize); 4] = [(3, 4), (8, 12), (16, 24), (44, 236)];
+
+const KINDS: &[&str] = &[
+    "by address: active",
+    "by address: unassigned",
+    "by address: unknown",
+    "by hardware: active",
+    "by hardware: unknown",
+    "by client id: active",
+    "by client id: unknown",
+    "client id over 64 octets",
+    "other fixed fields filled",
+    "chaddr past hlen, unknown",
+    "left: without end",
+    "left: capped",
+    "left: 4,294,967,294",
+    "left: less",
+    "since: moment to come",
+    "since: capped",
+    "since: 4,294,967,295",
+    "since: less",
+    "record with hardware",
+    "record without hardware",
+    "record with client id",
+    "record without client id",
+    "record with relay information",
+    "record without relay information",
+    "by address, no addresses",
+    "by client, no addresses",
+    "2 addresses",
+    "3 to 62 addresses",
+    "63 addresses",
+    "63 addresses of more",
+    "on a small stack",
+];
+
+/// What one desk asks, and the clock and the address of the box.
+#[derive(Clone, Debug)]
+struct Case {
+    xid: u32,
+    giaddr: u32,
+    key: Key,
+    now: u64,
+    server: [u8; 4],
+    /// What the fields that the box copies or ignores are filled with.
+    noise: Option<[u8; 240]>,
+}
+
+impl Case {
+    fn new(random: &mut Random, about: u64, table: &[Lease], clients: &[Client]) -> Case {
+        let mut noise = [0; 240];
+        random.fill(&mut noise);
+        Case {
+            xid: random.next() as u32,
+            giaddr: random.next() as u32 | 1,
+            key: Key::sound(random, table, clients),
+            now: leases::clock(random, about),
+            server: (random.next() as u32).to_be_bytes(),
+            noise: random.one_in(2).then_some(noise),
+        }
+    }
+
+    /// Fills the fields of a query that the box copies or ignores. With a
+    /// hardware key the octets past the address are among them.
+    fn fill(&self, query: &mut [u8]) {
+        let Some(noise) = &self.noise else {
+            return;
+        };
+        let past = match &self.key {
+            Key::Hardware { octets, .. } => (28 + octets.len(), 44),
+            _ => (44, 44),
+        };
+        for (from, to) in UNREAD.into_iter().chain([past]) {
+            query[from..to].copy_from_slice(&noise[from..to]);
+        }
+    }
+
+    /// What the desk is to read: the record that answers or, without one, the
+    /// key as it stands in the query.
+    fn due(&self, table: &[Lease], query: &[u8]) -> Reading {
+        let active = self.key.active(self.now, table);
+        let mut due = Reading {
+            kind: self.key.kind(self.now, table),
+            address: u32::from_be_bytes(query[12..16].try_into().expect("four octets")),
+            htype: query[1],
+            hlen: query[2],
+            chaddr: query[28..44].try_into().expect("16 octets"),
+            left: None,
+            since: None,
+            addresses: [0; ASSOCIATED_MAX],
+            count: 0,
+        };
+        if let Some(lease) = active.first() {
+            (due.address, due.htype) = (lease.address, lease.htype);
+            (due.hlen, due.chaddr) = (lease.hlen, lease.chaddr);
+            due.left = Some(left(lease, self.now));
+            due.since = Some(since(lease, self.now));
+        }
+        if active.len() > 1 {
+            due.count = active.len().min(ASSOCIATED_MAX);
+            let places = due.addresses.iter_mut().zip(&active);
+            places.for_each(|(place, lease)| *place = lease.address);
+        }
+        due
+    }
+}
+
+/// Seconds to the expiry of an active lease, as a reply says them.
+fn left(lease: &Lease, now: u64) -> u32 {
+    match lease.expiry {
+        NEVER => 4_294_967_295,
+        expiry => u32::try_from(expiry - now).map_or(4_294_967_294, |span| span.min(4_294_967_294)),
+    }
+}
+
+/// Seconds since the last transaction, as a reply says them.
+fn since(lease: &Lease, now: u64) -> u32 {
+    match now.checked_sub(lease.last_transaction) {
+        None => 0,
+        Some(span) => u32::try_from(span).unwrap_or(4_294_967_295),
+    }
+}
+
+impl Run<3> {
+    /// The round trip by each program, each from its own memory.
+    fn compare(&mut self, tables: &Tables, case: &Case) {
+        let lengths = [case.key.octets().len(), QUERY_MIN, REPLY_MIN];
+        let given = [case.key.octets()];
+        self.memory.lay_out(&mut self.random, lengths, &given);
+        let expected = self.by_second(tables, case);
+        let got = self.by_product(tables, case);
+        let [_, query, _] = self.memory.second();
+        let due = case.due(&tables.second, query);
+        if expected != Ok(due) || got != lease_reading(Ok(due)) || !self.memory.is_alike() {
+            println!("second {expected:?}, product {got:?}, due {due:?}, {case:02x?}");
+            println!("table {:02x?}", tables.second);
+            panic!("another reading than is due, seed {}", self.random.seed);
+        }
+        self.count(&tables.second, case, &due);
+    }
+
+    fn by_second(&mut self, tables: &Tables, case: &Case) -> Result<Reading, u8> {
+        let [lent, query, reply] = self.memory.second();
+        let length = case.key.by_second((case.xid, case.giaddr), lent, query)?;
+        case.fill(query);
+        let query = &query[..length];
+        let (_, length) = answer(case.now, &tables.second, case.server, query, reply)?;
+        read(case.xid, &reply[..length])
+    }
+
+    fn by_product(&mut self, tables: &Tables, case: &Case) -> raw::LeaseReading {
+        let [lent, query, reply] = self.memory.product();
+        let written = case.key.by_product((case.xid, case.giaddr), lent, query);
+        assert_eq!(written.refusal, 0, "{case:02x?}");
+        case.fill(query);
+        let query = &query[..written.length as usize];
+        let server = u32::from_be_bytes(case.server);
+        let told = raw::lease_query(Moment(case.now), tables.lent(), server, query, reply);
+        assert_eq!(told.refusal, 0, "{case:02x?}");
+        raw::lease_reply_read(case.xid, &reply[..told.length as usize])
+    }
+
+    fn count(&mut self, table: &[Lease], case: &Case, due: &Reading) {
+        let tally = &mut self.tally;
+        tally.cases += 1;
+        let kind = ["unassigned", "unknown", "active"][usize::from(due.kind - 11)];
+        tally.count(&format!("{}: {kind}", case.key.title()));
+        if case.key.octets().len() > 64 {
+            tally.count("client id over 64 octets");
+        }
+        if case.noise.is_some() {
+            tally.count("other fixed fields filled");
+        }
+        let past = &due.chaddr[usize::from(due.hlen)..];
+        if due.kind == 12 && past.iter().any(|&octet| octet != 0) {
+            tally.count("chaddr past hlen, unknown");
+        }
+        if let Some(lease) = case.key.active(case.now, table).first() {
+            self.count_record(lease);
+            self.count_left(lease, case.now);
+            self.count_since(lease, case.now);
+            self.count_addresses(table, case, due);
+        }
+    }
+
+    fn count_record(&mut self, lease: &Lease) {
+        for (length, part) in [
+            (lease.hlen, "hardware"),
+            (lease.id_len, "client id"),
+            (lease.relay_len, "relay information"),
+        ] {
+            let with = if length > 0 { "with" } else { "without" };
+            self.tally.count(&format!("record {with} {part}"));
+        }
+    }
+
+    fn count_left(&mut self, lease: &Lease, now: u64) {
+        let greatest = u64::from(u32::MAX) - 1;
+        let kind = match lease.expiry {
+            NEVER => "left: without end",
+            expiry if expiry - now > greatest => "left: capped",
+            expiry if expiry - now == greatest => "left: 4,294,967,294",
+            _ => "left: less",
+        };
+        self.tally.count(kind);
+    }
+
+    fn count_since(&mut self, lease: &Lease, now: u64) {
+        let greatest = u64::from(u32::MAX);
+        let kind = match lease.last_transaction {
+            last if last > now => "since: moment to come",
+            last if now - last > greatest => "since: capped",
+            last if now - last == greatest => "since: 4,294,967,295",
+            _ => "since: less",
+        };
+        self.tally.count(kind);
+    }
+
+    fn count_addresses(&mut self, table: &[Lease], case: &Case, due: &Reading) {
+        let active = case.key.active(case.now, table).len();
+        let kind = match (&case.key, due.count) {
+            (Key::Address(_), _) => "by address, no addresses",
+            (_, 0) => "by client, no addresses",
+            (_, 2) => "2 addresses",
+            (_, 63) if active > 63 => "63 addresses of more",
+            (_, 63) => "63 addresses",
+            _ => "3 to 62 addresses",
+        };
+        self.tally.count(kind);
+    }
+
+    /// Many round trips to one box, at times on a small stack.
+    fn group(&mut self) {
+        let random = &mut self.random;
+        let about = leases::about(random);
+        let clients = leases::clients(random);
+        let table = leases::table(random, &clients, about);
+        let cases = (0..30).map(|_| Case::new(random, about, &table, &clients));
+        let cases: Vec<Case> = cases.collect();
+        let tables = Tables::new(random, table);
+        if random.one_in(4) {
+            cases
+                .iter()
+                .for_each(|_| self.tally.count("on a small stack"));
+            on_a_stack(SMALL_STACK, || {
+                cases.iter().for_each(|case| self.compare(&tables, case))
+            });
+        } else {
+            cases.iter().for_each(|case| self.compare(&tables, case));
+        }
+        tables.assert_untouched();
+    }
+
+    fn whole(mut self) {
+        while self.tally.cases < TRIPS {
+            self.group();
+        }
+        let title = format!("seed {}, round trips of the desk", self.random.seed);
+        self.tally.report(&title, TRIPS, EACH);
+    }
+}
+
+#[test]
+fn replies_are_read_back() {
+    from_both_seeds(|seed| Run::new(seed, KINDS).whole());
+}
