@@ -16,6 +16,7 @@ use crate::{is_expiry, LATEST_MOMENT, NEVER};
 pub const TABLE_MAX: usize = 256;
 /// Least room for a reply: the fixed fields and the longest options.
 pub const REPLY_MIN: usize = 648;
+
 /// Message types of the replies.
 pub const LEASEUNASSIGNED: u8 = 11;
 pub const LEASEUNKNOWN: u8 = 12;

@@ -294,6 +294,23 @@ impl Run<1> {
         self.read_all(&cases);
     }
 
+    /// An option many times over in a reply of one kind: beside one of a sound
+    /// length empty ones, all ahead of it or all behind it.
+    fn option_repeats(&mut self, kind: u8, code: u8) {
+        let random = &mut self.random;
+        let mut cases = Vec::new();
+        for more in [1, 2, 3, 254, 255, 256, 257] {
+            let mut reply = Reply::bare(random, kind);
+            let sound = (0..).find(|&length| reply_faults::of_length(13, code, length).is_none());
+            reply.replace(random, code, sound.expect("a sound length"));
+            let at = random.pick(&[0, reply.options.len()]);
+            reply.options.splice(at..at, vec![(code, vec![]); more]);
+            let fault = reply_faults::of_repeat(kind, code);
+            cases.push(Case::new(random, reply, fault.into_iter().collect()));
+        }
+        self.read_all(&cases);
+    }
+
     /// Every value of an octet, in which some values are a fault.
     fn values(&mut self, label: &'static str, set: fn(&mut Reply, u8) -> bool) {
         let random = &mut self.random;
@@ -388,6 +405,7 @@ impl Run<1> {
     fn sweeps(&mut self) {
         for (kind, code) in (11..=13).flat_map(|kind| WRITTEN.map(|code| (kind, code))) {
             self.option_lengths(kind, code);
+            self.option_repeats(kind, code);
         }
         self.octet_values();
         self.packet_lengths();

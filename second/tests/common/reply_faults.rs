@@ -189,3 +189,22 @@ pub fn of_length(kind: u8, code: u8, length: usize) -> Option<&'static str> {
         _ => None,
     }
 }
+
+/// What an option that stands there more than once is called where that is a
+/// fault.
+pub fn of_repeat(kind: u8, code: u8) -> Option<&'static str> {
+    match (code, kind) {
+        (53, _) => Some("20: 53 twice"),
+        (54, 11) => Some("20: 54 twice, kind 11"),
+        (54, 12) => Some("20: 54 twice, kind 12"),
+        (54, _) => Some("20: 54 twice, kind 13"),
+        (61, 11) => Some("20: 61 twice, kind 11"),
+        (61, 12) => Some("20: 61 twice, kind 12"),
+        (61, _) => Some("20: 61 twice, kind 13"),
+        (_, 11 | 12) => None,
+        (51, _) => Some("20: 51 twice"),
+        (82, _) => Some("20: 82 twice"),
+        (91, _) => Some("20: 91 twice"),
+        _ => Some("20: 92 twice"),
+    }
+}
