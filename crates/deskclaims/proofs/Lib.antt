@@ -1,1 +1,8 @@
--- Laws that belong to no one function.
+-- The claims, proved.
+pub mod PacketLaws
+pub mod KeyLaws
+pub mod Asks
+pub mod EncodedLaws
+pub mod ReplyLaws
+pub mod KindLaws
+pub mod RoundTrip

@@ -57,12 +57,12 @@ Own n = (n ≡ 15) ⊎ ((n ≡ 9) ⊎ (n ≡ 8))
 abbrev pub TakenByTheBox : Type 0
 TakenByTheBox = (a : Asking) (c : Call) → a .result .refusal ≡ 0 → c .query ≡ sent a → (c .result .refusal ≡ 0) ⊎ Own (c .result .refusal)
 
--- More octets than a packet can carry: of a hardware address above 16, of a client id above 255.
+-- More octets than a packet can carry: of a client id above 255, since one octet tells its length.
 abbrev pub TooLong : Handed → Type 0
 TooLong (address a) = ⊥
-TooLong (hardware htype octets) = 16 < length octets
+TooLong (hardware htype octets) = ⊥
 TooLong (clientId id) = 255 < length id
 
--- Nothing else is refused with 19 than what is too long, and what the box would refuse if it were written.
+-- Nothing else is refused with 19 than such a client id, and what the box would refuse if it were written.
 abbrev pub RefusesNoMore : Type 0
 RefusesNoMore = (a : Asking) → a .result .refusal ≡ 19 → TooLong (a .handed) ⊎ ((n : ℕ) × (asking (queryBy (a .xid) (a .giaddr) (keyOf (a .handed))) ≡ refused n))

@@ -1,2 +1,3 @@
 -- The claims, and the words they are made of.
 pub mod Asks
+pub mod RoundTrip

@@ -33,7 +33,7 @@ asked-is clock t server q room r =
     (λ f. cases (ltb room 648) (λ g. absurd (let z : _≡_ {A = ℕ} 8 0 = rw (e, f, g) at r in omega arith))
     (λ g. rw (e, f, g))))
 
-answer-is : (c : Call) → c .result .refusal ≡ 0 → answer (c .clock) (c .table) (c .server) (c .query) (length (c .buffer)) ≡ answerBy (c .clock) (c .server) (c .query) (asking (c .query)) (c .table)
+pub answer-is : (c : Call) → c .result .refusal ≡ 0 → answer (c .clock) (c .table) (c .server) (c .query) (length (c .buffer)) ≡ answerBy (c .clock) (c .server) (c .query) (asking (c .query)) (c .table)
 unfolding answer
 answer-is c r =
     ap (λ (k : Asked). answerBy (c .clock) (c .server) (c .query) k (c .table))
@@ -121,11 +121,11 @@ never-unassigned c (inr (o, a)) e =
     (sym (ap (λ (w : Outcome). told w .kind) (client-id c o (no-refusal c 11 (omega arith) e) a)) ∙ sym (ap (λ x. x .kind) (c .promised .answers)) ∙ e)
 
 -- ---- what the buffer holds
-rises : (t : List Lease) → tableFits t ≡ true → risesFrom 0 t ≡ true
+pub rises : (t : List Lease) → tableFits t ≡ true → risesFrom 0 t ≡ true
 unfolding tableFits
 rises t e = and-right (countFits (length t)) (risesFrom 0 t) e
 
-table-fits : (c : Call) → c .result .refusal ≡ 0 → tableFits (c .table) ≡ true
+pub table-fits : (c : Call) → c .result .refusal ≡ 0 → tableFits (c .table) ≡ true
 unfolding answer askedOf answerBy firstOf
 table-fits c r =
     let z : told (answer (c .clock) (c .table) (c .server) (c .query) (length (c .buffer))) .refusal ≡ 0 = sym (ap (λ a. a .refusal) (c .promised .answers)) ∙ r in

@@ -90,78 +90,78 @@ pub record Placed (xid flags ciaddr giaddr chaddr magic l : List ℕ) : Type 0 w
 
 -- each stands there whatever octets the others are
 module _
-  (head xid secs flags ciaddr other giaddr chaddr names magic : List ℕ)
-  (s : Sized xid flags ciaddr giaddr chaddr)
-  (head-4 : length head ≡ 4) (secs-2 : length secs ≡ 2) (other-8 : length other ≡ 8) (names-192 : length names ≡ 192) (magic-4 : length magic ≡ 4)
+    (head xid secs flags ciaddr other giaddr chaddr names magic : List ℕ)
+    (s : Sized xid flags ciaddr giaddr chaddr)
+    (head-4 : length head ≡ 4) (secs-2 : length secs ≡ 2) (other-8 : length other ≡ 8) (names-192 : length names ≡ 192) (magic-4 : length magic ≡ 4)
   where
-  abbrev front : List ℕ
-  front = head ++ xid ++ secs ++ flags
+    abbrev front : List ℕ
+    front = head ++ xid ++ secs ++ flags
 
-  abbrev back : List ℕ
-  back = ciaddr ++ other ++ giaddr ++ chaddr ++ names ++ magic
+    abbrev back : List ℕ
+    back = ciaddr ++ other ++ giaddr ++ chaddr ++ names ++ magic
 
-  front-12 : length front ≡ 12
-  front-12 =
-      let a = s .xid-4 in
-      let b = s .flags-2 in
-      simp length-append (omega (arith, a, b, head-4, secs-2))
+    front-12 : length front ≡ 12
+    front-12 =
+        let a = s .xid-4 in
+        let b = s .flags-2 in
+        simp length-append (omega (arith, a, b, head-4, secs-2))
 
-  whole-240 : length (front ++ back) ≡ 240
-  whole-240 =
-      let a = s .xid-4 in
-      let b = s .flags-2 in
-      let c = s .ciaddr-4 in
-      let d = s .giaddr-4 in
-      let e = s .chaddr-16 in
-      simp length-append (omega (arith, a, b, c, d, e, head-4, secs-2, other-8, names-192, magic-4))
+    whole-240 : length (front ++ back) ≡ 240
+    whole-240 =
+        let a = s .xid-4 in
+        let b = s .flags-2 in
+        let c = s .ciaddr-4 in
+        let d = s .giaddr-4 in
+        let e = s .chaddr-16 in
+        simp length-append (omega (arith, a, b, c, d, e, head-4, secs-2, other-8, names-192, magic-4))
 
-  module _ (rest : List ℕ) where
-    -- a field of the first twelve octets, and one behind them
-    in-front : (f : List ℕ) (n : ℕ) → Stands front n f → Stands (front ++ back ++ rest) n f
-    in-front f n w = stands-front (front ++ back) rest f n (stands-front front back f n w)
+    module _ (rest : List ℕ) where
+      -- a field of the first twelve octets, and one behind them
+      in-front : (f : List ℕ) (n : ℕ) → Stands front n f → Stands (front ++ back ++ rest) n f
+      in-front f n w = stands-front (front ++ back) rest f n (stands-front front back f n w)
 
-    in-back : (f : List ℕ) (n m : ℕ) → 12 + n ≡ m → Stands back n f → Stands (front ++ back ++ rest) m f
-    in-back f n m e w = stands-front (front ++ back) rest f m (stands-behind front back f n m (let l = front-12 in omega (arith, l, e)) w)
+      in-back : (f : List ℕ) (n m : ℕ) → 12 + n ≡ m → Stands back n f → Stands (front ++ back ++ rest) m f
+      in-back f n m e w = stands-front (front ++ back) rest f m (stands-behind front back f n m (let l = front-12 in omega (arith, l, e)) w)
 
-    xid-stands : Stands (front ++ back ++ rest) 4 xid
-    xid-stands = in-front xid 4 (stands-front (head ++ xid ++ secs) flags xid 4 (stands-front (head ++ xid) secs xid 4 (stands-last head xid 4 head-4)))
+      xid-stands : Stands (front ++ back ++ rest) 4 xid
+      xid-stands = in-front xid 4 (stands-front (head ++ xid ++ secs) flags xid 4 (stands-front (head ++ xid) secs xid 4 (stands-last head xid 4 head-4)))
 
-    flags-stands : Stands (front ++ back ++ rest) 10 flags
-    flags-stands = in-front flags 10 (stands-last (head ++ xid ++ secs) flags 10 (let a = s .xid-4 in simp length-append (omega (arith, a, head-4, secs-2))))
+      flags-stands : Stands (front ++ back ++ rest) 10 flags
+      flags-stands = in-front flags 10 (stands-last (head ++ xid ++ secs) flags 10 (let a = s .xid-4 in simp length-append (omega (arith, a, head-4, secs-2))))
 
-    ciaddr-stands : Stands (front ++ back ++ rest) 12 ciaddr
-    ciaddr-stands =
-        in-back ciaddr 0 12 (omega arith)
-        (stands-front (ciaddr ++ other ++ giaddr ++ chaddr ++ names) magic ciaddr 0
-        (stands-front (ciaddr ++ other ++ giaddr ++ chaddr) names ciaddr 0
-        (stands-front (ciaddr ++ other ++ giaddr) chaddr ciaddr 0
-        (stands-front (ciaddr ++ other) giaddr ciaddr 0
-        (stands-front ciaddr other ciaddr 0 (stands-last [] ciaddr 0 refl))))))
+      ciaddr-stands : Stands (front ++ back ++ rest) 12 ciaddr
+      ciaddr-stands =
+          in-back ciaddr 0 12 (omega arith)
+          (stands-front (ciaddr ++ other ++ giaddr ++ chaddr ++ names) magic ciaddr 0
+          (stands-front (ciaddr ++ other ++ giaddr ++ chaddr) names ciaddr 0
+          (stands-front (ciaddr ++ other ++ giaddr) chaddr ciaddr 0
+          (stands-front (ciaddr ++ other) giaddr ciaddr 0
+          (stands-front ciaddr other ciaddr 0 (stands-last [] ciaddr 0 refl))))))
 
-    giaddr-stands : Stands (front ++ back ++ rest) 24 giaddr
-    giaddr-stands =
-        in-back giaddr 12 24 (omega arith)
-        (stands-front (ciaddr ++ other ++ giaddr ++ chaddr ++ names) magic giaddr 12
-        (stands-front (ciaddr ++ other ++ giaddr ++ chaddr) names giaddr 12
-        (stands-front (ciaddr ++ other ++ giaddr) chaddr giaddr 12
-        (stands-last (ciaddr ++ other) giaddr 12 (let a = s .ciaddr-4 in simp length-append (omega (arith, a, other-8)))))))
+      giaddr-stands : Stands (front ++ back ++ rest) 24 giaddr
+      giaddr-stands =
+          in-back giaddr 12 24 (omega arith)
+          (stands-front (ciaddr ++ other ++ giaddr ++ chaddr ++ names) magic giaddr 12
+          (stands-front (ciaddr ++ other ++ giaddr ++ chaddr) names giaddr 12
+          (stands-front (ciaddr ++ other ++ giaddr) chaddr giaddr 12
+          (stands-last (ciaddr ++ other) giaddr 12 (let a = s .ciaddr-4 in simp length-append (omega (arith, a, other-8)))))))
 
-    chaddr-stands : Stands (front ++ back ++ rest) 28 chaddr
-    chaddr-stands =
-        in-back chaddr 16 28 (omega arith)
-        (stands-front (ciaddr ++ other ++ giaddr ++ chaddr ++ names) magic chaddr 16
-        (stands-front (ciaddr ++ other ++ giaddr ++ chaddr) names chaddr 16
-        (stands-last (ciaddr ++ other ++ giaddr) chaddr 16
-        (let a = s .ciaddr-4 in let b = s .giaddr-4 in simp length-append (omega (arith, a, b, other-8))))))
+      chaddr-stands : Stands (front ++ back ++ rest) 28 chaddr
+      chaddr-stands =
+          in-back chaddr 16 28 (omega arith)
+          (stands-front (ciaddr ++ other ++ giaddr ++ chaddr ++ names) magic chaddr 16
+          (stands-front (ciaddr ++ other ++ giaddr ++ chaddr) names chaddr 16
+          (stands-last (ciaddr ++ other ++ giaddr) chaddr 16
+          (let a = s .ciaddr-4 in let b = s .giaddr-4 in simp length-append (omega (arith, a, b, other-8))))))
 
-    magic-stands : Stands (front ++ back ++ rest) 236 magic
-    magic-stands =
-        in-back magic 224 236 (omega arith)
-        (stands-last (ciaddr ++ other ++ giaddr ++ chaddr ++ names) magic 224
-        (let a = s .ciaddr-4 in let b = s .giaddr-4 in let c = s .chaddr-16 in simp length-append (omega (arith, a, b, c, other-8, names-192))))
+      magic-stands : Stands (front ++ back ++ rest) 236 magic
+      magic-stands =
+          in-back magic 224 236 (omega arith)
+          (stands-last (ciaddr ++ other ++ giaddr ++ chaddr ++ names) magic 224
+          (let a = s .ciaddr-4 in let b = s .giaddr-4 in let c = s .chaddr-16 in simp length-append (omega (arith, a, b, c, other-8, names-192))))
 
-    placed : Placed xid flags ciaddr giaddr chaddr magic (front ++ back ++ rest)
-    placed = record { xid-at = xid-stands; flags-at = flags-stands; ciaddr-at = ciaddr-stands; giaddr-at = giaddr-stands; chaddr-at = chaddr-stands; magic-at = magic-stands }
+      placed : Placed xid flags ciaddr giaddr chaddr magic (front ++ back ++ rest)
+      placed = record { xid-at = xid-stands; flags-at = flags-stands; ciaddr-at = ciaddr-stands; giaddr-at = giaddr-stands; chaddr-at = chaddr-stands; magic-at = magic-stands }
 
 -- What is read of a packet with such fields, and other octets behind them.
 module _ (op htype hlen : ℕ) (xid flags ciaddr giaddr chaddr : List ℕ) (s : Sized xid flags ciaddr giaddr chaddr) where

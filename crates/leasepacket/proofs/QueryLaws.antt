@@ -2,11 +2,11 @@
 use Prim.Native.Nat.{ℕ, suc, _+_, _≤_, _<_}
 use mathlib.Core.Path.{_≡_, refl, sym, ap, _∙_}
 use mathlib.Core.List.{List, [], _∷_}
-use mathlib.Core.Bool.{Bool, true, false, cond, not, _&&_, _||_, and-true}
+use mathlib.Core.Bool.{Bool, true, false, cond, not, _&&_, _||_, and-true, true≢false}
 use native.Mathlib.Omega.{arith}
 use native.Mathlib.Numerals.{add-one}
 use borrow.Table.Steps.{cases}
-use borrow.Author.Tests.{eq-eqb, ne-eqb, ltb-false, leb-true}
+use borrow.Author.Tests.{eq-eqb, ne-eqb, eqb-true, ltb-false, leb-true}
 use lib.Dec.{eqb, ltb, leb}
 use lib.ListN.{length, take, drop, getD, length-drop, drop-of-length-le}
 use lib.Seq.{drop-cons, length-take-le}
@@ -14,7 +14,7 @@ use Rattle.octets.specs.Compare.{sameOctets}
 use Rattle.octets.specs.Number.{numberAt}
 use Rattle.octets.proofs.CompareLaws.{same-lengths}
 use Rattle.octets.proofs.BoolLaws.{and-left, and-right}
-use Rattle.leasepacket.specs.Packet.{htype, hlen, ciaddr, chaddr, cookie, isPacket}
+use Rattle.leasepacket.specs.Packet.{part, htype, hlen, ciaddr, chaddr, cookie, isPacket}
 use Rattle.leasepacket.specs.Options.{valuesIn}
 use Rattle.leasepacket.specs.declared.query.Query.the-variants.{Refused}
 use Rattle.leasepacket.specs.Query.{anySet, Asked, refused, byAddress, byHardware, byClientId, hasHardwareKey, keys, idOr, keyOf, isShort, hasBadLength, refusals, firstOf, asking}
@@ -160,3 +160,46 @@ asking-sound p =
   where
     no : {n : ℕ} → suc n ≡ 0 → ⊥
     no z = omega (arith, z)
+
+-- ---- a query that is not refused has a hardware address that fits
+abbrev pub NotRefused : Asked → Type 0
+NotRefused (refused n) = ⊥
+NotRefused (byAddress a) = Unit {0}
+NotRefused (byHardware htype hlen octets) = Unit {0}
+NotRefused (byClientId octets) = Unit {0}
+
+none-applies : (rs : List (ℕ × Bool)) (key : Asked) → NotRefused (firstOf rs key) → NoneApplies rs
+unfolding firstOf
+none-applies [] key n = tt
+none-applies (r ∷ rs) key n = cases (r .1) (λ t. absurd (rw t at n)) (λ t. (t, none-applies rs key (rw t at n)))
+
+module _ (p : List ℕ) (l : 240 ≤ length p) where
+  two-octets : part p 1 2 ≡ htype p ∷ hlen p ∷ []
+  two-octets = rw (drop-cons p 1 0 (omega arith), drop-cons p 2 0 (omega arith))
+
+  none-hlen : anySet (part p 1 2) ≡ false → hlen p ≡ 0
+  unfolding anySet
+  none-hlen e = go (eqb (htype p) 0) (eqb (hlen p) 0) (eqb-true (hlen p) 0) (sym (ap anySet two-octets) ∙ e)
+    where
+      go : (a b : Bool) → (b ≡ true → hlen p ≡ 0) → (not a || (not b || false)) ≡ false → hlen p ≡ 0
+      go a true k z = k refl
+      go true false k z = absurd (true≢false z)
+      go false false k z = absurd (true≢false z)
+
+  hlen-fits : hasBadLength p ≡ false → hlen p ≤ 16
+  unfolding hasBadLength hasHardwareKey
+  hlen-fits b =
+      cases (anySet (part p 1 2))
+      (λ h. cases (ltb 16 (hlen p)) (λ f. absurd (long (eqb (hlen p) 0) (isShort (valuesIn 61 p)) (rw (h, f) at b))) (λ f. ltb-false 16 (hlen p) f))
+      (λ h. let z = none-hlen h in omega (arith, z))
+    where
+      long : (x y : Bool) → ((x || true) || y) ≡ false → ⊥
+      long true y e = true≢false e
+      long false y e = true≢false e
+
+pub asked-fits : (p : List ℕ) → NotRefused (asking p) → (240 ≤ length p) × (hlen p ≤ 16)
+unfolding asking refusals
+asked-fits p n =
+    let a = none-applies (refusals p) (keyOf p) n in
+    let l = packet-long p (not-not (isPacket p) (a .0)) .0 in
+    (l, hlen-fits p l (a .1 .1 .1 .1 .1 .1 .0))

@@ -40,7 +40,7 @@ unfolding flat
 flat-behind [] x = append-nil (bigEndian 4 x)
 flat-behind (y ∷ ys) x = ap (λ (l : List ℕ). bigEndian 4 y ++ l) (flat-behind ys x) ∙ sym (append-assoc (bigEndian 4 y) (flat ys) (bigEndian 4 x))
 
-flat-length : (xs : List ℕ) → length (flat xs) ≡ 4 * length xs
+pub flat-length : (xs : List ℕ) → length (flat xs) ≡ 4 * length xs
 unfolding flat
 flat-length [] = refl
 flat-length (x ∷ xs) = length-append (bigEndian 4 x) (flat xs) ∙ (let h = flat-length xs in let k = length-big-endian 4 x in omega arith)
