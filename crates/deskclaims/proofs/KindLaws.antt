@@ -1,6 +1,6 @@
 -- What the desk reads of the replies that the box writes, by their kind. Assumes nothing.
-use Prim.Native.Nat.{ℕ, zero, suc, _+_, _*_, _/_, _%_, _≤_, _<_, min}
-use mathlib.Core.Path.{_≡_, refl, sym, ap, _∙_}
+use Prim.Native.Nat.{ℕ, zero, suc, _+_, _*_, _/_, _%_, _≤_, _<_}
+use mathlib.Core.Path.{_≡_, refl, ap, _∙_}
 use mathlib.Core.Bool.{true, false}
 use mathlib.Core.List.{List, [], _∷_, _++_, append-assoc, append-nil}
 use mathlib.Core.Option.{some}
@@ -9,15 +9,15 @@ use native.Mathlib.Nat.{mul-div-cancel-left, mul-mod-right}
 use borrow.Table.Steps.{cases}
 use borrow.Author.Tests.{eqb-true, eqb-false}
 use lib.Dec.{leb, eqb, lit<}
-use lib.ListN.{length, take, drop, length-append, length-take}
+use lib.ListN.{length, take, drop, length-append}
 use lib.Seq.{length-take-le}
 use Rattle.clock.specs.declared.Moment.{Moment}
 use Rattle.clock.specs.declared.Span.{Span}
 use Rattle.clock.specs.Clock.{span, isNever, secondsLeft, secondsSince}
-use Rattle.octets.specs.Number.{numberAt, bigEndian}
+use Rattle.octets.specs.Number.{bigEndian}
 use Rattle.octets.proofs.NumberLaws.{length-big-endian, number-append, number-big-endian}
 use Rattle.lease.specs.declared.Lease.{Lease}
-use Rattle.leasepacket.specs.Packet.{part, htype, hlen, xid, ciaddr, chaddr}
+use Rattle.leasepacket.specs.Packet.{part, htype, hlen, xid, chaddr}
 use Rattle.leasepacket.specs.Options.{Opt, values}
 use Rattle.leasepacket.specs.Grammar.{Code}
 use Rattle.leasepacket.specs.Layout.{optional}

@@ -1,15 +1,14 @@
 -- What the desk reads of a reply with some fixed fields and some options. Assumes nothing.
-use Prim.Native.Nat.{ℕ, zero, suc, _+_, _*_, _≤_, _<_}
-use mathlib.Core.Path.{_≡_, refl, sym, ap, _∙_}
-use mathlib.Core.Bool.{Bool, true, false, cond, _&&_}
+use Prim.Native.Nat.{ℕ, zero, suc, _+_, _≤_, _<_}
+use mathlib.Core.Path.{_≡_, refl, ap, _∙_}
+use mathlib.Core.Bool.{Bool, true, cond, _&&_}
 use mathlib.Core.List.{List, [], _∷_, _++_}
-use mathlib.Core.Option.{Option, none, some}
+use mathlib.Core.Option.{none, some}
 use native.Mathlib.Omega.{arith}
 use lib.Dec.{leb, eqb}
 use lib.ListN.{length, getD, take, drop}
 use lib.Seq.{getD-drop}
 use borrow.Author.Tests.{eq-eqb, le-leb}
-use Rattle.clock.specs.declared.Span.{Span}
 use Rattle.octets.specs.Number.{numberAt}
 use Rattle.leasepacket.specs.Packet.{part, op, htype, hlen, xid, ciaddr, chaddr, optionArea, isPacket}
 use Rattle.leasepacket.specs.Options.{Opt, options, values, valuesOf, valuesIn, hasOptions}
@@ -18,7 +17,7 @@ use Rattle.leasepacket.proofs.QueryLaws.{part-length}
 use Rattle.leasepacket.proofs.LayoutLaws.{Sized, read-op, read-htype, read-hlen, read-chaddr, read-xid, read-ciaddr, read-area, read-packet}
 use Rattle.leasereply.specs.Reply.{fixed}
 use Rattle.deskreply.specs.Reply.{keeps, keepsAll, kindBy, isKind, isReply}
-use Rattle.deskreply.specs.Reading.{Told, timeBy, addressesBy, tells, Reading, told, reading}
+use Rattle.deskreply.specs.Reading.{timeBy, addressesBy, tells, told, reading}
 use Rattle.deskclaims.proofs.EncodedLaws.{encoded, Codes, read-encoded}
 
 -- ---- a number of a part

@@ -1,7 +1,7 @@
 -- The claim of specs/RoundTrip.antt. Assumes nothing.
 use Prim.Native.Nat.{ℕ, zero, suc, _≤_, _<_}
 use mathlib.Core.Path.{_≡_, refl, sym, ap, _∙_, subst}
-use mathlib.Core.Bool.{Bool, true, false, not, _&&_, true≢false}
+use mathlib.Core.Bool.{Bool, true, not, _&&_, true≢false}
 use mathlib.Core.List.{List, [], _∷_, map}
 use mathlib.Core.Logic.{_⊎_, inl, inr}
 use native.Mathlib.Omega.{arith}
@@ -11,25 +11,24 @@ use lib.Dec.{leb, eqb}
 use lib.ListN.{length, getD, take, drop, length-take, length-map}
 use lib.Seq.{take-append-seam}
 use Rattle.octets.specs.Write.{laid}
-use Rattle.octets.proofs.BoolLaws.{and-both, and-left, and-right}
-use Rattle.clock.specs.declared.Moment.{Moment}
+use Rattle.octets.proofs.BoolLaws.{and-left, and-right}
 use Rattle.lease.specs.declared.Lease.{Lease}
-use Rattle.lease.specs.Lease.{noLease, activeAt, wellFormed, lengthsFit, momentsFit, hardwareFits, allZero}
+use Rattle.lease.specs.Lease.{noLease, activeAt, wellFormed, lengthsFit, momentsFit, hardwareFits}
 use Rattle.leasepacket.specs.Packet.{xid, hlen}
 use Rattle.leasepacket.specs.Query.{Asked, refused, byAddress, byHardware, byClientId, asking}
 use Rattle.leasepacket.proofs.QueryLaws.{NotRefused, asked-fits, asking-sound, Sound}
-use Rattle.leasetable.specs.Table.{tableFits, risesFrom, those, ranked}
+use Rattle.leasetable.specs.Table.{tableFits, those, ranked}
 use Rattle.leasereply.specs.Reply.{otherReply, activeReply}
-use Rattle.leasequery.specs.Answer.{Outcome, refusal, reply, told, written, hasKey, leasesOf, byAddressOf, byClientOf, answerBy, answer}
+use Rattle.leasequery.specs.Answer.{Outcome, refusal, reply, told, written, hasKey, leasesOf, byAddressOf, byClientOf, answerBy}
 use Rattle.leaseclaims.specs.Claims.{Call, ActiveAt}
 use Rattle.leaseclaims.proofs.ListLaws.{StandsAt, AllStand, those-stand, ranked-stand}
 use Rattle.leaseclaims.proofs.OrderLaws.{formed-at}
 use Rattle.leaseclaims.proofs.Claims.{answer-is, rises, table-fits}
-use Rattle.deskreply.specs.Reading.{Reading, reading}
+use Rattle.deskreply.specs.Reading.{reading}
 use Rattle.deskreply.specs.Reading as read
 use Rattle.deskreply.specs.Promise.{answered}
 use Rattle.deskclaims.specs.Asks.{Address}
-use Rattle.deskclaims.specs.RoundTrip.{Typed, AllTyped, replied, ReadBack, fromQuery, fromLease, ReadsQuery, ReadsLease, RoundTrip}
+use Rattle.deskclaims.specs.RoundTrip.{Typed, AllTyped, replied, ReadBack, fromQuery, ReadsQuery, ReadsLease, RoundTrip}
 use Rattle.deskclaims.proofs.KindLaws.{AllAddress, Formed, Given, reads-other, reads-active}
 
 -- ---- what is known of the records of a table

@@ -1,5 +1,5 @@
 -- Every query that a desk writes is one that a box takes, said of any results that meet the promises of the calls. Document 02, d).
-use Prim.Native.Nat.{ℕ, _<_, _≤_}
+use Prim.Native.Nat.{ℕ, _<_}
 use mathlib.Core.Path.{_≡_}
 use mathlib.Core.List.{List}
 use mathlib.Core.Logic.{_⊎_}

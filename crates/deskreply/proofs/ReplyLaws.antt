@@ -1,23 +1,20 @@
 -- The laws of what a reply must keep and of what it tells. Assumes nothing.
 use Prim.Native.Nat.{ℕ, zero, suc, _+_, _-_, _*_, _/_, _≤_, _<_}
 use mathlib.Core.Path.{_≡_, refl, sym, ap, _∙_}
-use mathlib.Core.Bool.{Bool, true, false, cond, not, _&&_}
+use mathlib.Core.Bool.{Bool, true, false, _&&_}
 use mathlib.Core.List.{List, [], _∷_, _++_, append-nil}
 use native.Mathlib.Omega.{arith}
 use native.Mathlib.Nat.{zero-add}
 use native.Mathlib.Numerals.{add-one}
-use lib.Dec.{leb, eqb}
 use lib.ListN.{length, getD, take, drop, set, replicate, length-replicate}
-use lib.Seq.{drop-cons, getD-drop, length-take-le}
-use borrow.Author.Tests.{leb-true}
+use lib.Seq.{drop-cons, getD-drop}
 use Rattle.clock.specs.Clock.{span}
 use Rattle.octets.specs.Number.{numberAt}
 use Rattle.octets.specs.Write.{put, laid, Laid}
-use Rattle.octets.proofs.BoolLaws.{and-left, and-right}
 use Rattle.octets.proofs.WriteLaws.{put-front, put-more, written}
 use Rattle.leasepacket.specs.Packet.{part, chaddr}
 use Rattle.leasepacket.specs.Options.{valuesIn}
-use Rattle.leasepacket.specs.ReplyOptions.{Rule, inEvery, inActive, inKind}
+use Rattle.leasepacket.specs.ReplyOptions.{Rule}
 use Rattle.deskreply.specs.Reply.{keeps, keepsAll}
 use Rattle.leasepacket.proofs.QueryLaws.{part-length}
 use Rattle.deskreply.specs.Reading.{timeBy, numbers, addressesBy}

@@ -8,7 +8,7 @@ use Rattle.clock.specs.declared.Span.{Span}
 use Rattle.clock.specs.Clock.{span}
 use Rattle.octets.specs.Write.{laid}
 use Rattle.deskreply.specs.declared.LeaseReading.{LeaseReading}
-use Rattle.deskreply.specs.Reading.{Told, Reading, refusal, told, reading}
+use Rattle.deskreply.specs.Reading.{Reading, refusal, told, reading}
 
 -- Whether a time is there, 1 or 0, and the time, 0 where it is not.
 abbrev pub isThere : Option Span → ℕ

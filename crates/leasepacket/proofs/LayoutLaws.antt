@@ -7,7 +7,7 @@ use mathlib.Core.List.{List, [], _∷_, _++_, append-assoc, append-nil}
 use native.Mathlib.Omega.{arith}
 use native.Mathlib.Nat.{zero-add}
 use borrow.Author.Tests.{le-leb, eq-eqb}
-use lib.ListN.{length, getD, take, drop, replicate, length-append, length-replicate}
+use lib.ListN.{length, take, drop, replicate, length-append, length-replicate}
 use lib.Seq.{drop-at, take-at, getD-append-add}
 use Rattle.octets.specs.Number.{numberAt}
 use Rattle.octets.proofs.NumberLaws.{number-append}
@@ -15,7 +15,7 @@ use Rattle.leasepacket.specs.Packet.{part, optionArea, cookie, isPacket}
 use Rattle.leasepacket.specs.Packet as packet
 use Rattle.leasepacket.specs.Layout.{fixedFields, option, optional}
 use Rattle.leasepacket.specs.Options.{followed, options}
-use Rattle.leasepacket.specs.Grammar.{Code, Equations}
+use Rattle.leasepacket.specs.Grammar.{Code}
 use Rattle.leasepacket.proofs.Equations.{equations}
 
 -- ---- a field at a place of any octets

@@ -1,8 +1,7 @@
 -- What is read of a packet, by the first refusal that applies, and that the place of a client id is its place. Assumes nothing.
-use Prim.Native.Nat.{ℕ, zero, suc, _≤_, _<_}
+use Prim.Native.Nat.{ℕ, _≤_, _<_}
 use mathlib.Core.Path.{_≡_, refl, sym, ap, _∙_}
-use mathlib.Core.List.{List, [], _∷_, headD}
-use mathlib.Core.Option.{Option, none, some}
+use mathlib.Core.List.{List, [], _∷_}
 use mathlib.Core.Bool.{Bool, true, false, not, _||_}
 use native.Mathlib.Omega.{arith}
 use borrow.Table.Steps.{cases}
@@ -14,7 +13,7 @@ use Rattle.leasepacket.specs.declared.options.Place.{Place}
 use Rattle.leasepacket.specs.declared.options.Place.the-variants.{Absent, At}
 use Rattle.leasepacket.specs.declared.query.Query.the-variants.{ByAddress, ByHardware, ByClientId, Refused}
 use Rattle.leasepacket.specs.Packet.{part, op, htype, hlen, ciaddr, giaddr, chaddr, isPacket}
-use Rattle.leasepacket.specs.Options.{Opt, opt, followed, options, values, valuesOf, valuesIn, hasOptions}
+use Rattle.leasepacket.specs.Options.{valuesIn, hasOptions}
 use Rattle.leasepacket.specs.Query.{Asked, refused, byAddress, byHardware, byClientId, hasHardwareKey, keys, isLeaseQuery, idOr, keyOf, hasBadLength, refusals, firstOf, asking}
 use Rattle.leasepacket.specs.Occurrence.{before, placeOf}
 use Rattle.leasepacket.specs.Reading.{idPlace, readAt, reading, asked}
