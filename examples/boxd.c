@@ -71,12 +71,11 @@ static int is_told_to_end(int at, int end)
 int main(int count, char **arguments)
 {
     settings chosen;
+    fault wrong = read_settings(count, arguments, &chosen);
     int at, end;
 
-    if (!read_settings(count, arguments, &chosen)) {
-        fprintf(stderr, "usage: boxd [--mute | --damage | --other-xid | --stray] PORT\n");
-        return 2;
-    }
+    if (wrong.what != NULL)
+        return misused(wrong, "boxd [--mute | --damage | --other-xid | --stray] PORT");
     end = open_end();
     at = open_port(chosen.port);
     while (!is_told_to_end(at, end))

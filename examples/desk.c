@@ -49,15 +49,19 @@ static int ask(uint16_t port, const question *asked)
     return became == REPLIED;
 }
 
-/* Whether every argument is a question. They are all read before the first is asked. */
-static int are_questions(char **arguments, int count)
+/* What is wrong with the arguments. All are read before the first question is asked. */
+static fault find_fault(int count, char **arguments, uint16_t *port)
 {
     question read;
-    int sound = 1;
 
-    for (int i = 0; i < count; i++)
-        sound = sound && read_question(arguments[i], &read);
-    return sound;
+    if (count < 2)
+        return (fault){ "the port is missing", "" };
+    if (!read_port(arguments[1], port) || *port == 0)
+        return (fault){ "not a port that can be asked", arguments[1] };
+    for (int i = 2; i < count; i++)
+        if (!read_question(arguments[i], &read))
+            return (fault){ "not a question", arguments[i] };
+    return (fault){ NULL, NULL };
 }
 
 /* Whether every question had a reply. */
@@ -77,15 +81,12 @@ int main(int count, char **arguments)
     static char by_client[] = "client=oboe", by_hardware[] = "hardware=02:00:00:00:00:07",
                 by_address[] = "address=10.0.0.8";
     static char *three[] = { by_client, by_hardware, by_address };
-    uint16_t port = 0;
+    uint16_t port;
+    fault wrong = find_fault(count, arguments, &port);
     int replied;
 
-    if (count < 2 || !read_port(arguments[1], &port) || port == 0 ||
-        !are_questions(arguments + 2, count - 2)) {
-        fprintf(stderr, "usage: desk PORT "
-                        "[client=TEXT | hardware=HH:HH:.. | address=A.B.C.D] ..\n");
-        return 2;
-    }
+    if (wrong.what != NULL)
+        return misused(wrong, "desk PORT [client=TEXT | hardware=HH:HH:.. | address=A.B.C.D] ..");
     replied = count > 2 ? ask_all(port, arguments + 2, count - 2) : ask_all(port, three, 3);
     if (fflush(stdout) != 0 || ferror(stdout))
         stop("standard output");

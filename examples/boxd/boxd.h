@@ -4,6 +4,8 @@
 
 #include "jespurla.h"
 
+#include "../udp/udp.h"
+
 /* What becomes of the replies: a desk meets all of these. */
 typedef enum {
     SOUND,     /* each goes out as it is */
@@ -13,13 +15,13 @@ typedef enum {
     STRAY      /* each goes out with another xid, and then as it is */
 } treatment;
 
-/* settings.c: what the arguments say, and whether they are as they should be. */
+/* settings.c: what the arguments say, and what is wrong with them. */
 typedef struct {
     uint16_t port;
     treatment replies;
 } settings;
 
-int read_settings(int count, char **arguments, settings *read);
+fault read_settings(int count, char **arguments, settings *read);
 
 /* serve.c: takes one packet from the socket, if one is there, and answers it. */
 void serve(int at, treatment replies);

@@ -2,7 +2,6 @@
 #include "boxd.h"
 
 #include "../box/table.h"
-#include "../udp/udp.h"
 
 #include <errno.h>
 #include <stdio.h>

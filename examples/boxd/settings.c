@@ -1,8 +1,6 @@
 /* The arguments of boxd. */
 #include "boxd.h"
 
-#include "../udp/udp.h"
-
 #include <string.h>
 
 static const struct {
@@ -26,12 +24,16 @@ static int read_option(const char *text, treatment *replies)
     return 0;
 }
 
-int read_settings(int count, char **arguments, settings *read)
+fault read_settings(int count, char **arguments, settings *read)
 {
     read->replies = SOUND;
-    if (count != 2 && count != 3)
-        return 0;
+    if (count < 2)
+        return (fault){ "the port is missing", "" };
+    if (count > 3)
+        return (fault){ "too many arguments", "" };
     if (count == 3 && !read_option(arguments[1], &read->replies))
-        return 0;
-    return read_port(arguments[count - 1], &read->port);
+        return (fault){ "no such option", arguments[1] };
+    if (!read_port(arguments[count - 1], &read->port))
+        return (fault){ "not a port", arguments[count - 1] };
+    return (fault){ NULL, NULL };
 }

@@ -45,20 +45,33 @@ static void print_span(uint32_t seconds)
     }
 }
 
-/* Both are spans: they say how long, counted from when the box replied. The box writes no number
- * above the largest that fits, so that one stands for every longer span too. */
-static void print_times(const jespurla_lease_reading *told)
+/* Both times are spans: they say how long, counted from when the box replied. The box writes no
+ * number above the largest that fits, so that one stands for every longer span too. */
+static void print_since(jespurla_span since)
 {
     printf("  last heard of");
-    print_span(told->since.seconds);
-    puts(told->since.seconds == UINT32_MAX ? " ago, or earlier" : " ago");
-    if (told->left.seconds == UINT32_MAX) {
+    print_span(since.seconds);
+    puts(since.seconds == UINT32_MAX ? " ago, or earlier" : " ago");
+}
+
+static void print_left(jespurla_span left)
+{
+    if (left.seconds == UINT32_MAX) {
         puts("  held without end");
         return;
     }
     printf("  held for another");
-    print_span(told->left.seconds);
-    puts(told->left.seconds == UINT32_MAX - 1 ? ", or longer" : "");
+    print_span(left.seconds);
+    puts(left.seconds == UINT32_MAX - 1 ? ", or longer" : "");
+}
+
+/* A time that is not there is no time of 0 seconds. */
+static void print_times(const jespurla_lease_reading *told)
+{
+    if (told->has_since)
+        print_since(told->since);
+    if (told->has_left)
+        print_left(told->left);
 }
 
 /* The list has the address that the reply is about too. */

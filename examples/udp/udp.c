@@ -1,4 +1,5 @@
-/* Ports of the loopback address, and the end of a program whose system call failed. */
+/* Ports of the loopback address, and how a program ends that was called wrongly or whose system call
+ * failed. */
 #include "udp.h"
 
 #include <errno.h>
@@ -10,6 +11,14 @@ void stop(const char *what)
 {
     fprintf(stderr, "%s: %s: %s\n", program, what, strerror(errno));
     exit(1);
+}
+
+int misused(fault wrong, const char *usage)
+{
+    fprintf(stderr, "%s: %s%s%s\n", program, wrong.what, *wrong.argument == '\0' ? "" : ": ",
+            wrong.argument);
+    fprintf(stderr, "usage: %s\n", usage);
+    return 2;
 }
 
 int read_port(const char *text, uint16_t *port)

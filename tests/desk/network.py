@@ -26,20 +26,26 @@ def opened():
 
 
 def wrong_arguments(programs):
-    """The usage on standard error, status 2."""
+    """What is wrong, with the argument that is, and the usage on standard error, status 2."""
+    missing, many, port = "the port is missing", "too many arguments", "not a port: "
+    option, asked, question = "no such option: ", "not a port that can be asked: ", "not a question: "
     wrong = {
-        "boxd": [[], ["x"], [""], ["-1"], ["65536"], ["0x10"], ["--what", "0"], ["0", "0"],
-                 ["--mute"], ["--mute", "--mute", "0"]],
-        "desk": [[], ["0"], ["x"], ["65536"], ["9", "oboe"], ["9", "client"], ["9", "name=oboe"],
-                 ["9", "hardware=0"], ["9", "hardware=02:"], ["9", "hardware=02:0g"],
-                 ["9", "hardware=0200"], ["9", "hardware=" + ":".join(["02"] * 33)],
-                 ["9", "address=10.0.0"], ["9", "address=10.0.0.256"]],
+        "boxd": [([], missing), (["x"], port + "x"), ([""], "not a port"), (["-1"], port + "-1"),
+                 (["65536"], port + "65536"), (["0x10"], port + "0x10"),
+                 (["--what", "0"], option + "--what"), (["0", "0"], option + "0"),
+                 (["--mute"], port + "--mute"), (["--mute", "--mute", "0"], many)],
+        "desk": [([], missing), (["0"], asked + "0"), (["x"], asked + "x"),
+                 (["65536"], asked + "65536")],
     }
+    for key in ["oboe", "client", "name=oboe", "hardware=0", "hardware=02:", "hardware=02:0g",
+                "hardware=0200", "hardware=" + ":".join(["02"] * 33), "address=10.0.0",
+                "address=10.0.0.256"]:
+        wrong["desk"].append((["9", "client=oboe", key], question + key))
     for name, lists in wrong.items():
-        for arguments in lists:
+        for arguments, said in lists:
             status, out, err = programs.run(name, *arguments)
             assert (status, out) == (2, ""), (name, arguments, status, out)
-            assert err.startswith(f"usage: {name} "), (name, arguments, err)
+            assert err.startswith(f"{name}: {said}\nusage: {name} "), (name, arguments, err)
 
 
 def system_errors(programs):
