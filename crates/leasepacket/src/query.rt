@@ -130,7 +130,7 @@ fn of_type(p: &[u8], kind: Place, id: Place) -> Query
 
 // The options must be in order.
 fn by_options(p: &[u8]) -> Query
-    requires { ⌜ (240 ≤ length (now p)) × (length (now p) ≤ 1500) × Past 2 (now p) ⌝ }
+    requires { ⌜ (240 ≤ length (now p)) × Past 2 (now p) ⌝ }
     ensures { λ r. ⌜ r ≡ reading (now (p .entry)) ⌝ }
 {
     match options::read_all(p) {

@@ -3,6 +3,7 @@
 
 #[path = "../../tests/common/mod.rs"]
 mod common;
+mod desk;
 mod job;
 mod lease_query;
 mod lent;
@@ -32,6 +33,7 @@ fn main() -> Result<(), String> {
         name_option::run(&mut table);
         server_list::run(&mut table);
         lease_query::run(&mut table);
+        desk::run(&mut table);
         zone::run(&mut table);
         job::run(&mut table);
         lent::run(&mut table);

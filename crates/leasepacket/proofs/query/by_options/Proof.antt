@@ -18,12 +18,12 @@ of-type-requires : tie.Need-of-type-requires
 of-type-requires c κs =
     let s = c .before .before .before .before .before in
     let t = subst (Tells (s .args .p .now)) (c .before .w .given .1) (c .before .before .before .read-all .ensures) in
-    (t .1, record { long = s .pre .0; past = past-3 _ (s .pre .2) (t .0); ids = t .2; stands = t .3 })
+    (t .1, record { long = s .pre .0; past = past-3 _ (s .pre .1) (t .0); ids = t .2; stands = t .3 })
 
 returns : tie.Need-returns
 returns c =
     let s = c .before .before .before .before in
-    refuses-3 _ (s .pre .2) (subst (Tells (s .args .p .now)) (c .enum-told .given .1) (c .before .before .read-all .ensures))
+    refuses-3 _ (s .pre .1) (subst (Tells (s .args .p .now)) (c .enum-told .given .1) (c .before .before .read-all .ensures))
 
 returns-2 : tie.Need-returns-2
 returns-2 c = search needs
