@@ -56,7 +56,7 @@ module _ (p : List ℕ) (r : isReply p ≡ true) where
       let c = eqb (op p) 2 in
       let d = leb (hlen p) 16 in
       let f : hasFields p ≡ true = and-left (hasFields p) (isKind (kindOf p)) fields-and-kind in
-      packet-long p (and-left a b (and-left (a && b) c (and-left (a && b && c) d f))) .0
+      packet-long p (and-left a b (and-left (a && b) c (and-left (a && b && c) d f)))
 
   pub addresses-short : kindOf p ≡ 13 → Short (valuesIn 92 p)
   addresses-short k =

@@ -13,7 +13,7 @@ use lib.Seq.{drop-cons, length-take-le}
 use Rattle.octets.specs.Compare.{sameOctets}
 use Rattle.octets.specs.Number.{numberAt}
 use Rattle.octets.proofs.CompareLaws.{same-lengths}
-use Rattle.octets.proofs.BoolLaws.{and-left, and-right}
+use Rattle.octets.proofs.BoolLaws.{and-left}
 use Rattle.leasepacket.specs.Packet.{part, htype, hlen, ciaddr, chaddr, cookie, isPacket}
 use Rattle.leasepacket.specs.Options.{valuesIn}
 use Rattle.leasepacket.specs.declared.query.Query.the-variants.{Refused}
@@ -98,14 +98,13 @@ module _ (p : List ℕ) (at : ℕ) where
   type-is n e h = rw (e, one-octet h) (and-true (eqb (getD p at 0) 10))
 
 -- A packet has the octets of the fixed fields.
-pub packet-long : (p : List ℕ) → isPacket p ≡ true → (240 ≤ length p) × (length p ≤ 1500)
+pub packet-long : (p : List ℕ) → isPacket p ≡ true → 240 ≤ length p
 unfolding isPacket
 packet-long p e =
     let a = leb 240 (length p) in
     let b = leb (length p) 1500 in
     let c = eqb (numberAt 4 p 236) (numberAt 4 cookie 0) in
-    let d : (a && b) ≡ true = and-left (a && b) c e in
-    (leb-true 240 (length p) (and-left a b d), leb-true (length p) 1500 (and-right a b d))
+    leb-true 240 (length p) (and-left a b (and-left (a && b) c e))
 
 -- ---- what is known of a query that was read: a refusal has a number, and a key comes from a packet of 240 octets or more, a hardware
 -- key with a length of at most 16
@@ -156,7 +155,7 @@ unfolding asking refusals
 asking-sound p =
     first-sound p (keyOf p) (refusals p)
     (no, (no, (no, (no, (no, (no, (no, tt)))))))
-    (λ n. key-sound p (packet-long p (not-not (isPacket p) (n .0)) .0) (n .1 .1 .1 .1 .1 .1 .0))
+    (λ n. key-sound p (packet-long p (not-not (isPacket p) (n .0))) (n .1 .1 .1 .1 .1 .1 .0))
   where
     no : {n : ℕ} → suc n ≡ 0 → ⊥
     no z = omega (arith, z)
@@ -201,5 +200,5 @@ pub asked-fits : (p : List ℕ) → NotRefused (asking p) → (240 ≤ length p)
 unfolding asking refusals
 asked-fits p n =
     let a = none-applies (refusals p) (keyOf p) n in
-    let l = packet-long p (not-not (isPacket p) (a .0)) .0 in
+    let l = packet-long p (not-not (isPacket p) (a .0)) in
     (l, hlen-fits p l (a .1 .1 .1 .1 .1 .1 .0))

@@ -25,7 +25,7 @@ by-options-requires c κs =
     let k = c .before .before .before .is-packet in
     let e = sym (k .ensures) ∙ not-false (k .result) (c .before .before .if1 .left) in
     let l = packet-long (c .before .before .before .before .before .args .p .now) e in
-    (l .0, past-2 _ e (sym (c .before .octet-at .ensures) ∙ c .if2 .left))
+    (l, past-2 _ e (sym (c .before .octet-at .ensures) ∙ c .if2 .left))
 
 returns-3 : tie.Need-returns-3
 returns-3 c = search needs
