@@ -78,7 +78,7 @@ module _ (kind server : ℕ) (q : List ℕ) (long : 240 ≤ length q) where
         let r = well-formed q (htype q) (hlen q) (part q 12 4) (chaddr q) otherOptions other-sound kind kind-other h j few-other kept-other in
         ap (reading (xid q)) other-is
         ∙ taken q (htype q) (hlen q) (part q 12 4) (chaddr q) otherOptions other-sound kind kind-other r
-        ∙ ap told (tells-all q (htype q) (hlen q) (part q 12 4) (chaddr q) otherOptions other-sound kind kind-other ∙ rw (n, number-of 4 4 q 12 (omega arith)))
+        ∙ ap told (tells-all q (htype q) (hlen q) (part q 12 4) (chaddr q) otherOptions other-sound kind kind-other ∙ rw (n, number-of 4 4 q 12 (omega arith)) refl)
 
 -- ---- a lease is active: its times and addresses
 left-small : (expiry clock : Moment) → secondsLeft expiry clock .0 < 4294967296
@@ -260,4 +260,4 @@ module _ (clock : Moment) (server : ℕ) (q : List ℕ) (x : Lease) (bs : List �
       ap (reading (xid q)) active-is
       ∙ taken q (x .htype) (x .hlen) (bigEndian 4 (x .address)) (x .chaddr) activeOptions active-sound 13 values-53 r
       ∙ ap told (tells-all q (x .htype) (x .hlen) (bigEndian 4 (x .address)) (x .chaddr) activeOptions active-sound 13 values-53
-      ∙ rw (number-big-endian 4 (x .address) (f .typed .address), values-51, values-91, values-92, time-back (secondsLeft (x .expiry) clock) (left-small (x .expiry) clock), time-back (secondsSince (x .last) clock) (since-small (x .last) clock), addresses-back bs (g .small)))
+      ∙ rw (number-big-endian 4 (x .address) (f .typed .address), values-51, values-91, values-92, time-back (secondsLeft (x .expiry) clock) (left-small (x .expiry) clock), time-back (secondsSince (x .last) clock) (since-small (x .last) clock), addresses-back bs (g .small)) refl)

@@ -1,6 +1,6 @@
 -- The laws of what a reply must keep and of what it tells. Assumes nothing.
 use Prim.Native.Nat.{ℕ, zero, suc, _+_, _-_, _*_, _/_, _≤_, _<_}
-use mathlib.Core.Path.{_≡_, refl, sym, ap, _∙_}
+use mathlib.Core.Path.{_≡_, refl, sym, ap, _∙_, subst}
 use mathlib.Core.Bool.{Bool, true, false, _&&_}
 use mathlib.Core.List.{List, [], _∷_, _++_, append-nil}
 use native.Mathlib.Omega.{arith}
@@ -86,10 +86,10 @@ module _ (p : List ℕ) (at n : ℕ) where
     only-few h s = let k : length (part p at n) ≤ 252 = rw only at s in omega (arith, k, part-length p at n h)
 
 -- ---- the hardware address fills its 16 octets
-pub hardware-filled : (p l : List ℕ) (k : ℕ) → 240 ≤ length p → Laid (replicate 16 0) 0 (chaddr p) l k → l ≡ chaddr p
+pub hardware-filled : (p v l : List ℕ) (k : ℕ) → 240 ≤ length p → Laid (replicate 16 0) 0 v l k → v ≡ chaddr p → l ≡ chaddr p
 unfolding laid
-hardware-filled p l k h w =
+hardware-filled p v l k h w e =
     let n : length {A = ℕ} (replicate 16 0) ≡ 16 = length-replicate {A = ℕ} 16 0 in
     let m : length (chaddr p) ≡ 16 = part-length p 28 16 (omega arith) in
-    written w .fit (omega (arith, n, m)) .list ∙ put-front (replicate 16 0) (chaddr p)
+    written (subst (λ (u : List ℕ). Laid (replicate 16 0) 0 u l k) e w) .fit (omega (arith, n, m)) .list ∙ put-front (replicate 16 0) (chaddr p)
     ∙ ap (λ (j : ℕ). chaddr p ++ drop j (replicate 16 0)) m ∙ append-nil (chaddr p)

@@ -21,7 +21,8 @@ refused-requires-2 : tie.Need-refused-requires-2
 refused-requires-2 c κs = search needs
 
 returns-2 : tie.Need-returns-2
-returns-2 c = c .refused2 .ensures ∙ other-xid _ _ (sym (c .before .before .before .before .is-reply .ensures) ∙ not-false (c .before .before .before .before .is-reply .result) (c .before .before .before .if1 .left)) (λ z. c .before .if2 .taken (c .before .before .u32-at .ensures ∙ z))
+returns-2 c = let s = c .before .before .before .before .before .before .args in
+    c .refused2 .ensures ∙ other-xid (s .reply .now) (s .xid) (sym (c .before .before .before .before .is-reply .ensures) ∙ not-false (c .before .before .before .before .is-reply .result) (c .before .before .before .if1 .left)) (λ z. c .before .if2 .taken (c .before .before .u32-at .ensures ∙ z))
 
 tell-requires : tie.Need-tell-requires
 tell-requires c κs = sym (c .before .before .before .is-reply .ensures) ∙ not-false (c .before .before .before .is-reply .result) (c .before .before .if1 .left)

@@ -1,3 +1,4 @@
+use mathlib.Core.Path.{refl}
 use Rattle.deskreply.proofs.ReplyLaws.{hardware-filled}
 use borrow.Author.Needs.{needs}
 use Rattle.deskreply.proofs.fields.hardware_of.Statement.{statement}
@@ -19,7 +20,7 @@ put-octets-requires : tie.Need-put-octets-requires
 put-octets-requires c κs = search needs
 
 returns : tie.Need-returns
-returns c = hardware-filled (c .before .before .before .before .before .args .p .now) _ _ (c .before .before .before .before .before .pre) (c .before .put-octets .ensures)
+returns c = hardware-filled (c .before .before .before .before .before .args .p .now) _ _ _ (c .before .before .before .before .before .pre) (c .before .put-octets .ensures) refl
 
 pub hardware-of-spec : {M : Type 1} → statement M
 hardware-of-spec =

@@ -1,3 +1,4 @@
+use mathlib.Core.Path.{refl}
 use borrow.Author.Tests.{le-leb, lt-leb}
 use borrow.Author.Needs.{needs}
 use Rattle.deskreply.proofs.form.does_fit.Statement.{statement}
@@ -13,7 +14,7 @@ rem-result : tie.Need-rem-result
 rem-result c = search needs
 
 returns-3 : tie.Need-returns-3
-returns-3 c = simp (le-leb _ _ (c .before .if1 .left), le-leb _ _ (c .if2 .left))
+returns-3 c = simp (le-leb _ _ (c .before .if1 .left), le-leb _ _ (c .if2 .left)) refl
 
 pub does-fit-spec : {M : Type 1} → statement M
 does-fit-spec = tie.close (tie.spec returns returns-2 rem-result returns-3)

@@ -39,7 +39,8 @@ returns-3 c = let t = one (c .before .before .before .before .before .before .ar
 
 returns-4 : tie.Need-returns-4
 unfolding keeps
-returns-4 c = sym (ap (keeps _) ((more (c .before .before .before .before .args .p .now) (c .before .before .before .before .args .code) (sym (c .enum-told3 .given .1) ∙ c .before .before .find .ensures)) .3))
+returns-4 c = let s = c .before .before .before .before .args in
+    sym (ap (keeps (record { code = s .code; always = s .always; least = s .least; most = s .most; unit = s .unit })) ((more (c .before .before .before .before .args .p .now) (c .before .before .before .before .args .code) (sym (c .enum-told3 .given .1) ∙ c .before .before .find .ensures)) .3))
 
 pub does-keep-spec : {M : Type 1} → statement M
 does-keep-spec =

@@ -1,4 +1,4 @@
-use mathlib.Core.Path.{sym, _∙_}
+use mathlib.Core.Path.{refl, sym, _∙_}
 use mathlib.Core.Bool.{cond}
 use mathlib.Core.List.{[]}
 use lib.Dec.{eqb}
@@ -20,7 +20,7 @@ has-active-requires : tie.Need-has-active-requires
 has-active-requires c κs = search needs
 
 returns-2 : tie.Need-returns-2
-returns-2 c = c .has-active .ensures ∙ sym (keeps-both inEvery _ (c .before .before .before .before .before .args .p .now) ∙ rw (sym (c .before .before .before .has-every .ensures) ∙ not-false (c .before .before .before .has-every .result) (c .before .before .if1 .left), eq-eqb _ _ (c .before .if2 .taken)))
+returns-2 c = c .has-active .ensures ∙ sym (keeps-both inEvery _ (c .before .before .before .before .before .args .p .now) ∙ simp (sym (c .before .before .before .has-every .ensures) ∙ not-false (c .before .before .before .has-every .result) (c .before .before .if1 .left), eq-eqb _ _ (c .before .if2 .taken)) refl)
 
 returns-3 : tie.Need-returns-3
 unfolding keepsAll

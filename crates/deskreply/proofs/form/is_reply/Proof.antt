@@ -1,4 +1,4 @@
-use mathlib.Core.Path.{sym, _∙_}
+use mathlib.Core.Path.{refl, sym, _∙_}
 use borrow.Author.Tests.{le-leb, lt-leb, not-true, not-false}
 use Rattle.deskreply.specs.Reply.{isReply}
 use borrow.Author.Needs.{needs}
@@ -17,11 +17,11 @@ kind-of-requires c κs = search needs
 
 returns-2 : tie.Need-returns-2
 unfolding isReply
-returns-2 c = sym (rw (sym (c .before .before .before .has-fields .ensures) ∙ not-false (c .before .before .before .has-fields .result) (c .before .before .if1 .left), ← c .before .kind-of .ensures, lt-leb _ _ (c .if2 .taken)))
+returns-2 c = sym (simp (sym (c .before .before .before .has-fields .ensures) ∙ not-false (c .before .before .before .has-fields .result) (c .before .before .if1 .left), ← c .before .kind-of .ensures, lt-leb _ _ (c .if2 .taken)) refl)
 
 returns-3 : tie.Need-returns-3
 unfolding isReply
-returns-3 c = sym (rw (sym (c .before .before .before .before .has-fields .ensures) ∙ not-false (c .before .before .before .before .has-fields .result) (c .before .before .before .if1 .left), ← c .before .before .kind-of .ensures, le-leb _ _ (c .before .if2 .left), lt-leb _ _ (c .if3 .taken)))
+returns-3 c = sym (simp (sym (c .before .before .before .before .has-fields .ensures) ∙ not-false (c .before .before .before .before .has-fields .result) (c .before .before .before .if1 .left), ← c .before .before .kind-of .ensures, le-leb _ _ (c .before .if2 .left), lt-leb _ _ (c .if3 .taken)) refl)
 
 has-all-requires : tie.Need-has-all-requires
 has-all-requires c κs = search needs

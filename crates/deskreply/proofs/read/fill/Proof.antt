@@ -1,4 +1,5 @@
-use mathlib.Core.Path.{refl}
+use mathlib.Core.Path.{_≡_, refl}
+use Rattle.deskreply.specs.Stages.{filled}
 use borrow.Author.Needs.{needs}
 use Rattle.deskreply.proofs.read.fill.Statement.{statement}
 use Rattle.deskreply.proofs.read.fill.Tie as tie
@@ -16,7 +17,9 @@ shared-slice-read-t15 : tie.Need-shared-slice-read-t15
 shared-slice-read-t15 c = search needs
 
 returns : tie.Need-returns
-returns c = rw (c .before .before .u32-at .ensures, c .before .before .before .before .before .before .hardware-of .ensures) refl
+returns c = let s = c .before .before .before .before .before .before .before .before .args in
+    let e : filled (s .p .now) (s .kind) (s .left) (s .since) (s .listed) ≡ filled (s .p .now) (s .kind) (s .left) (s .since) (s .listed) = refl in
+    rw (c .before .before .u32-at .ensures, c .before .before .before .before .before .before .hardware-of .ensures) e
 
 pub fill-spec : {M : Type 1} → statement M
 fill-spec =

@@ -1,3 +1,4 @@
+use mathlib.Core.Path.{refl}
 use borrow.Author.Needs.{needs}
 use Rattle.leasepacket.proofs.options.noted.Statement.{statement}
 use Rattle.leasepacket.proofs.options.noted.Tie as tie
@@ -21,7 +22,7 @@ returns-2 : tie.Need-returns-2
 returns-2 c = simp (c .enum-told2 .given .1)
 
 returns-3 : tie.Need-returns-3
-returns-3 c = simp (c .enum-told3 .given .1)
+returns-3 c = simp (c .enum-told3 .given .1) refl
 
 returns-4 : tie.Need-returns-4
 returns-4 c = simp (c .enum-told4 .given .1)

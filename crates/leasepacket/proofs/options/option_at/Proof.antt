@@ -1,5 +1,6 @@
 use borrow.Author.Needs.{needs}
 use Prim.Native.Nat.{_+_}
+use mathlib.Core.Path.{refl}
 use native.Mathlib.Omega.{arith}
 use borrow.Author.Tests.{eq-eqb, ne-eqb, le-leb, lt-leb, lt-ltb, le-ltb}
 use Rattle.leasepacket.specs.Places.{stepOf}
@@ -22,7 +23,7 @@ add-t12 c = search needs
 
 returns-3 : tie.Need-returns-3
 unfolding stepOf
-returns-3 c = simp (lt-leb _ _ (c .before .before .before .if1 .left), ne-eqb _ _ (c .before .if2 .left), eq-eqb _ _ (c .if3 .taken))
+returns-3 c = simp (lt-leb _ _ (c .before .before .before .if1 .left), ne-eqb _ _ (c .before .if2 .left), eq-eqb _ _ (c .if3 .taken)) refl
 
 sub-if4 : tie.Need-sub-if4
 sub-if4 c = search needs
@@ -48,7 +49,7 @@ sub-if5-2 c = search needs
 
 returns-5 : tie.Need-returns-5
 unfolding stepOf
-returns-5 c = simp (lt-leb _ _ (c .before .before .before .before .before .before .if1 .left), ne-eqb _ _ (c .before .before .before .before .if2 .left), ne-eqb _ _ (c .before .before .before .if3 .left), le-ltb _ _ (c .before .before .if4 .left), lt-ltb _ _ (c .if5 .taken))
+returns-5 c = simp (lt-leb _ _ (c .before .before .before .before .before .before .if1 .left), ne-eqb _ _ (c .before .before .before .before .if2 .left), ne-eqb _ _ (c .before .before .before .if3 .left), le-ltb _ _ (c .before .before .if4 .left), lt-ltb _ _ (c .if5 .taken)) refl
 
 add-next : tie.Need-add-next
 add-next c = search needs
@@ -68,7 +69,7 @@ noted-requires c κs = search needs
 
 returns-7 : tie.Need-returns-7
 unfolding stepOf
-returns-7 c = simp (lt-leb _ _ (c .before .before .before .before .before .before .before .before .if1 .left), ne-eqb _ _ (c .before .before .before .before .before .before .if2 .left), ne-eqb _ _ (c .before .before .before .before .before .if3 .left), le-ltb _ _ (c .before .before .before .before .if4 .left), le-ltb _ _ (c .before .before .if5 .left), eq-eqb _ _ (c .before .if6 .left), c .noted .ensures)
+returns-7 c = simp (lt-leb _ _ (c .before .before .before .before .before .before .before .before .if1 .left), ne-eqb _ _ (c .before .before .before .before .before .before .if2 .left), ne-eqb _ _ (c .before .before .before .before .before .if3 .left), le-ltb _ _ (c .before .before .before .before .if4 .left), le-ltb _ _ (c .before .before .if5 .left), eq-eqb _ _ (c .before .if6 .left), c .noted .ensures) refl
 
 pub option-at-spec : {M : Type 1} → statement M
 option-at-spec =
