@@ -3,6 +3,7 @@
 
 mod common;
 
+use common::damage::damaged;
 use common::faults::{first, has_another, number};
 use common::leases;
 use common::product::lease_reading;
@@ -380,25 +381,13 @@ impl Run<1> {
     /// every cut.
     fn damage(&mut self, packet: Vec<u8>) {
         let xid = u32::from_be_bytes([packet[4], packet[5], packet[6], packet[7]]);
-        let mut case = Case {
+        let case = |packet| Case {
             xid,
             packet,
             known: None,
         };
-        let mut cases = Vec::new();
-        for at in 0..case.packet.len() {
-            let octet = case.packet[at];
-            let any = self.random.octet();
-            for changed in [0, 255, octet.wrapping_add(1), octet.wrapping_sub(1), any] {
-                case.packet[at] = changed;
-                cases.push(case.clone());
-            }
-            case.packet[at] = octet;
-        }
-        while case.packet.len() > 230 {
-            case.packet.pop();
-            cases.push(case.clone());
-        }
+        let packets = damaged(&mut self.random, &packet);
+        let cases: Vec<Case> = packets.into_iter().map(case).collect();
         self.read_all(&cases);
     }
 

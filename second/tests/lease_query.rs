@@ -2,6 +2,7 @@
 
 mod common;
 
+use common::damage::damaged;
 use common::faults::{first, has_another, number};
 use common::leases::{self, Client};
 use common::moments::no_clock;
@@ -243,20 +244,12 @@ impl Run<2> {
         table.truncate(20);
         let mut case = self.case(about, &table, &clients, &[]);
         case.faults = None;
-        let mut cases = Vec::new();
-        for at in 0..case.packet.len().min(600) {
-            let octet = case.packet[at];
-            let any = self.random.octet();
-            for changed in [0, 255, octet.wrapping_add(1), octet.wrapping_sub(1), any] {
-                case.packet[at] = changed;
-                cases.push(case.clone());
-            }
-            case.packet[at] = octet;
-        }
-        while case.packet.len() > 230 {
-            case.packet.pop();
-            cases.push(case.clone());
-        }
+        let packets = damaged(&mut self.random, &case.packet);
+        let case = |packet| Case {
+            packet,
+            ..case.clone()
+        };
+        let cases: Vec<Case> = packets.into_iter().map(case).collect();
         let tables = Tables::new(&mut self.random, table);
         self.ask_all(&tables, &cases);
     }

@@ -4,6 +4,7 @@
 
 pub mod areas;
 pub mod bind;
+pub mod damage;
 pub mod desk_keys;
 pub mod faults;
 pub mod jobs;
