@@ -42,8 +42,8 @@ addressesBy (v ∷ w ∷ vs) = []
 
 -- What a well-formed reply tells. Times and addresses are only those of an active lease.
 module _ (p : List ℕ) where
-  abbrev inActive : {A : Type 0} → A → A → A
-  inActive active other = cond (eqb (kindOf p) 13) active other
+  abbrev whenActive : {A : Type 0} → A → A → A
+  whenActive active other = cond (eqb (kindOf p) 13) active other
 
   unfoldable pub tells : Told
   tells =
@@ -53,9 +53,9 @@ module _ (p : List ℕ) where
         htype = htype p;
         hlen = hlen p;
         chaddr = chaddr p;
-        left = inActive (timeBy (valuesIn leaseTime p)) none;
-        since = inActive (timeBy (valuesIn lastTransactionTime p)) none;
-        addresses = inActive (addressesBy (valuesIn associatedIp p)) [];
+        left = whenActive (timeBy (valuesIn leaseTime p)) none;
+        since = whenActive (timeBy (valuesIn lastTransactionTime p)) none;
+        addresses = whenActive (addressesBy (valuesIn associatedIp p)) [];
       }
 
 -- What a call comes to: a refusal, or what the reply tells.

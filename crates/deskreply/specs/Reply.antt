@@ -8,7 +8,7 @@ use Rattle.leasepacket.specs.Packet.{op, hlen, messageType, isPacket}
 use Rattle.leasepacket.specs.Options.{valuesIn, hasOptions}
 use Rattle.leasepacket.specs.ReplyOptions.{Rule, inKind}
 
--- The values of an option keep its rule: it is not repeated, its length is one that a server gives it, and it is there if every server sends it.
+-- The values of an option keep its rule: it is not repeated, its length is one that a server gives it, and it is there if a server always sends it.
 unfoldable pub keeps : Rule → List (List ℕ) → Bool
 keeps rule [] = not (rule .always)
 keeps rule (v ∷ []) = leb (rule .least) (length v) && leb (length v) (rule .most) && eqb (length v % rule .unit) 0
