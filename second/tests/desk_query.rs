@@ -9,7 +9,6 @@ use common::leases::{self, Client};
 use common::product::{lease_answer, query_answer};
 use common::random::{from_both_seeds, Random};
 use common::run::Run;
-use common::stack::on_a_stack;
 use common::tables::Tables;
 use jespurla::raw::{self, Moment};
 use second::desk_query::QUERY_MIN;
@@ -19,8 +18,6 @@ use second::lease_query::{answer, Lease, REPLY_MIN};
 const QUERIES: usize = 250_000;
 /// Cases of each kind, at the least.
 const EACH: usize = 1_000;
-/// The stack of a thread on which the calls must run.
-const SMALL_STACK: usize = 16 * 1024;
 /// Refusals in the order in which they are given.
 const ORDER: [u8; 2] = [19, 32];
 /// Buffers that are too short, and buffers that are not.
@@ -283,16 +280,7 @@ impl Run<3> {
     /// All cases with one table, at times on a small stack.
     fn write_all(&mut self, table: Vec<Lease>, cases: &[Case]) {
         let tables = Tables::new(&mut self.random, table);
-        if self.random.one_in(4) {
-            cases
-                .iter()
-                .for_each(|_| self.tally.count("on a small stack"));
-            on_a_stack(SMALL_STACK, || {
-                cases.iter().for_each(|case| self.compare(&tables, case))
-            });
-        } else {
-            cases.iter().for_each(|case| self.compare(&tables, case));
-        }
+        self.compare_all(cases, |run, case| run.compare(&tables, case));
         tables.assert_untouched();
     }
 

@@ -12,7 +12,6 @@ use common::random::{from_both_seeds, Random};
 use common::replies::{Reply, UNREAD, WRITTEN};
 use common::reply_faults;
 use common::run::Run;
-use common::stack::on_a_stack;
 use common::tables::Tables;
 use jespurla::raw::{self, Moment};
 use second::desk_reply::{read, Reading};
@@ -22,8 +21,6 @@ use second::lease_query::REPLY_MIN;
 const REPLIES: usize = 400_000;
 /// Cases of each kind, at the least.
 const EACH: usize = 1_000;
-/// The stack of a thread on which the calls must run.
-const SMALL_STACK: usize = 16 * 1024;
 /// Refusals in the order in which they are given.
 const ORDER: [u8; 2] = [20, 21];
 
@@ -242,20 +239,6 @@ impl Run<1> {
         }
     }
 
-    /// All of some cases, at times on a small stack.
-    fn read_all(&mut self, cases: &[Case]) {
-        if self.random.one_in(4) {
-            cases
-                .iter()
-                .for_each(|_| self.tally.count("on a small stack"));
-            on_a_stack(SMALL_STACK, || {
-                cases.iter().for_each(|case| self.compare(case))
-            });
-        } else {
-            cases.iter().for_each(|case| self.compare(case));
-        }
-    }
-
     /// A reply with one fault, two or none.
     fn case(&mut self) -> Case {
         let random = &mut self.random;
@@ -279,7 +262,7 @@ impl Run<1> {
 
     fn group(&mut self) {
         let cases: Vec<Case> = (0..50).map(|_| self.case()).collect();
-        self.read_all(&cases);
+        self.compare_all(&cases, Run::compare);
     }
 
     /// An option of every length in a reply of one kind.
@@ -292,7 +275,7 @@ impl Run<1> {
             let fault = reply_faults::of_length(kind, code, length);
             cases.push(Case::new(random, reply, fault.into_iter().collect()));
         }
-        self.read_all(&cases);
+        self.compare_all(&cases, Run::compare);
     }
 
     /// An option many times over in a reply of one kind: beside one of a sound
@@ -309,7 +292,7 @@ impl Run<1> {
             let fault = reply_faults::of_repeat(kind, code);
             cases.push(Case::new(random, reply, fault.into_iter().collect()));
         }
-        self.read_all(&cases);
+        self.compare_all(&cases, Run::compare);
     }
 
     /// Every value of an octet, in which some values are a fault.
@@ -322,7 +305,7 @@ impl Run<1> {
             let faults = if sound { vec![] } else { vec![label] };
             cases.push(Case::new(random, reply, faults));
         }
-        self.read_all(&cases);
+        self.compare_all(&cases, Run::compare);
     }
 
     /// Every value of op and hlen, and of option 53.
@@ -359,7 +342,7 @@ impl Run<1> {
             };
             cases.push(Case::new(random, reply, faults));
         }
-        self.read_all(&cases);
+        self.compare_all(&cases, Run::compare);
     }
 
     /// A reply of some kind that the product's box wrote from a random table.
@@ -388,7 +371,7 @@ impl Run<1> {
         };
         let packets = damaged(&mut self.random, &packet);
         let cases: Vec<Case> = packets.into_iter().map(case).collect();
-        self.read_all(&cases);
+        self.compare_all(&cases, Run::compare);
     }
 
     fn sweeps(&mut self) {

@@ -9,7 +9,6 @@ use common::leases::{self, Client};
 use common::product::lease_reading;
 use common::random::{from_both_seeds, Random};
 use common::run::Run;
-use common::stack::on_a_stack;
 use common::tables::Tables;
 use jespurla::raw::{self, Moment};
 use second::desk_query::QUERY_MIN;
@@ -21,8 +20,6 @@ use second::NEVER;
 const TRIPS: usize = 200_000;
 /// Cases of each kind, at the least.
 const EACH: usize = 1_000;
-/// The stack of a thread on which the calls must run.
-const SMALL_STACK: usize = 16 * 1024;
 /// Fixed fields that the box copies or ignores: hops; secs and flags; yiaddr
 /// and siaddr; sname and file.
 const UNREAD: [(usize, usize); 4] = [(3, 4), (8, 12), (16, 24), (44, 236)];
@@ -265,16 +262,7 @@ impl Run<3> {
         let cases = (0..30).map(|_| Case::new(random, about, &table, &clients));
         let cases: Vec<Case> = cases.collect();
         let tables = Tables::new(random, table);
-        if random.one_in(4) {
-            cases
-                .iter()
-                .for_each(|_| self.tally.count("on a small stack"));
-            on_a_stack(SMALL_STACK, || {
-                cases.iter().for_each(|case| self.compare(&tables, case))
-            });
-        } else {
-            cases.iter().for_each(|case| self.compare(&tables, case));
-        }
+        self.compare_all(&cases, |run, case| run.compare(&tables, case));
         tables.assert_untouched();
     }
 

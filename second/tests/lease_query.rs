@@ -10,7 +10,6 @@ use common::product::lease_answer;
 use common::queries::Query;
 use common::random::from_both_seeds;
 use common::run::Run;
-use common::stack::on_a_stack;
 use common::tables::Tables;
 use common::tally::Tally;
 use jespurla::raw::{self, LeaseAnswer, Moment};
@@ -21,8 +20,6 @@ use second::NEVER;
 const QUERIES: usize = 400_000;
 /// Cases of each kind, at the least.
 const EACH: usize = 1_000;
-/// The stack of a thread on which the calls must run.
-const SMALL_STACK: usize = 16 * 1024;
 /// Refusals in the order in which they are given.
 const ORDER: [u8; 10] = [15, 9, 8, 1, 2, 3, 4, 5, 6, 7];
 
@@ -223,16 +220,7 @@ impl Run<2> {
 
     /// All cases of one table, at times on a small stack.
     fn ask_all(&mut self, tables: &Tables, cases: &[Case]) {
-        if self.random.one_in(4) {
-            cases
-                .iter()
-                .for_each(|_| self.tally.count("on a small stack"));
-            on_a_stack(SMALL_STACK, || {
-                cases.iter().for_each(|case| self.compare(tables, case))
-            });
-        } else {
-            cases.iter().for_each(|case| self.compare(tables, case));
-        }
+        self.compare_all(cases, |run, case| run.compare(tables, case));
         tables.assert_untouched();
     }
 

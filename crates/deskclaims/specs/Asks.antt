@@ -25,6 +25,7 @@ keyOf (clientId id) = byClientId id
 abbrev pub Address : ℕ → Type 0
 Address a = a < 4294967296
 
+-- What the types of the arguments say of a key.
 abbrev pub Typed : Handed → Type 0
 Typed (address a) = Address a
 Typed (hardware htype octets) = Unit {0}
