@@ -4,6 +4,7 @@ use mathlib.Core.Path.{_≡_, refl, sym, ap, _∙_, subst}
 use mathlib.Core.Bool.{true, false, not, true≢false}
 use mathlib.Core.List.{List, [], _∷_}
 use mathlib.Core.Logic.{_⊎_, inl, inr, ⊎-elim}
+use mathlib.Core.Option.{none}
 use native.Mathlib.Omega.{arith}
 use borrow.Table.Steps.{cases}
 use borrow.Author.Tests.{eqb-true, eqb-false, leb-true, leb-false, not-true, not-false}
@@ -17,14 +18,15 @@ use Rattle.clock.specs.Clock.{isMoment}
 use Rattle.lease.specs.declared.Lease.{Lease}
 use Rattle.lease.specs.Lease.{activeAt}
 use Rattle.leasepacket.specs.Layout.{option}
+use Rattle.leasepacket.specs.Requested.{requestList}
 use Rattle.leasepacket.specs.Query.{Asked, refused, byAddress, byClientId, firstOf, asking}
 use Rattle.leasetable.specs.Table.{tableFits, those, ranked}
 use Rattle.leasequery.specs.Answer.{told, hasKey, leasesOf, byAddressOf, byClientOf, answerBy, askedOf, answer}
 use Rattle.deskquery.specs.Query.{hardwareKey, packet, queryBy, isKey, writeRefusals, askedBy}
 use Rattle.deskquery.specs.Promise.{refusalOf, given}
-use Rattle.deskclaims.specs.Asks.{Handed, address, hardware, clientId, keyOf, Address, Typed, Asking, sent, AsksForItsKey, Own, TakenByTheBox, TooLong, RefusesNoMore}
+use Rattle.deskclaims.specs.Asks.{Handed, address, hardware, clientId, keyOf, Address, Typed, Asking, sent, AsksForItsKey, AsksForAll, Own, TakenByTheBox, TooLong, RefusesNoMore}
 use Rattle.deskclaims.proofs.PacketLaws.{refused-giaddr, giaddr-is}
-use Rattle.deskclaims.proofs.KeyLaws.{none-set, zeros, asks-address, no-address, asks-hardware, no-hardware, long-hardware, asks-id, short-id, padded}
+use Rattle.deskclaims.proofs.KeyLaws.{none-set, zeros, address-no-list, asks-address, no-address, hardware-no-list, asks-hardware, no-hardware, long-hardware, id-no-list, asks-id, short-id, padded}
 
 -- ---- what a call is asked for: the key, where it gives no refusal
 module _ (giaddr : ℕ) (key : Asked) (room : ℕ) where
@@ -81,11 +83,26 @@ asks xid giaddr g n (clientId id) w k =
     let most = leb-true (length id) 255 (and-right (leb 2 (length id)) (leb (length id) 255) k) in
     asks-id xid giaddr id g n least most
 
+-- and has no list
+lists-none : (xid giaddr : ℕ) (h : Handed) → Typed h → isKey (keyOf h) ≡ true → requestList (queryBy xid giaddr (keyOf h)) ≡ none
+unfolding queryBy isKey hardwareKey
+lists-none xid giaddr (address a) w k = address-no-list xid giaddr a w
+lists-none xid giaddr (hardware htype octets) w k =
+    let most = leb-true (length octets) 16 (and-right (leb 1 (length octets)) (leb (length octets) 16) k) in
+    hardware-no-list xid giaddr htype (length octets) (laid octets none-set) (padded octets most)
+lists-none xid giaddr (clientId id) w k = id-no-list xid giaddr id
+
 pub asks-for-its-key : AsksForItsKey
 asks-for-its-key a r =
     let k = asked-key (a .giaddr) (keyOf (a .handed)) (length (a .buffer)) (sym (refusal-is a) ∙ r) in
     ap asking (sent-is a) ∙ ap (λ (x : Asked). asking (queryBy (a .xid) (a .giaddr) x)) (k .0)
     ∙ asks (a .xid) (a .giaddr) (a .relay) (k .1) (a .handed) (a .typed) (k .2)
+
+pub asks-for-all : AsksForAll
+asks-for-all a r =
+    let k = asked-key (a .giaddr) (keyOf (a .handed)) (length (a .buffer)) (sym (refusal-is a) ∙ r) in
+    ap requestList (sent-is a) ∙ ap (λ (x : Asked). requestList (queryBy (a .xid) (a .giaddr) x)) (k .0)
+    ∙ lists-none (a .xid) (a .giaddr) (a .handed) (a .typed) (k .2)
 
 -- ---- the box: a key that is asked for is answered, and what stands before it are the refusals of clock, table and buffer
 module _ (clock : Moment) (server : ℕ) (q : List ℕ) where

@@ -3,7 +3,7 @@ use Prim.Native.Nat.{ℕ, _≤_, _<_}
 use mathlib.Core.Path.{_≡_, refl, sym, ap, _∙_}
 use mathlib.Core.Bool.{true, false, or-true}
 use mathlib.Core.List.{List, [], _∷_, _++_}
-use mathlib.Core.Option.{some}
+use mathlib.Core.Option.{none, some}
 use native.Mathlib.Omega.{arith}
 use borrow.Table.Steps.{cases}
 use borrow.Author.Tests.{eq-eqb, ne-eqb, lt-ltb, le-ltb}
@@ -13,12 +13,13 @@ use Rattle.octets.specs.Write.{laid}
 use Rattle.leasepacket.specs.Packet as read
 use Rattle.leasepacket.specs.Layout.{option}
 use Rattle.leasepacket.specs.Options.{Opt, followed, options, values, valuesIn}
+use Rattle.leasepacket.specs.Requested.{requestList}
 use Rattle.leasepacket.specs.Query.{refused, byAddress, byHardware, byClientId, anySet, hasHardwareKey, keys, hasBadLength, asking}
 use Rattle.leasepacket.proofs.LayoutLaws.{read-option, read-end}
 use Rattle.leasepacket.proofs.QueryLaws.{keys-zero, keys-some, key-is, length-is}
 use Rattle.deskquery.specs.Query.{packet}
 use Rattle.deskclaims.specs.Asks.{Address}
-use Rattle.deskclaims.proofs.PacketLaws.{refused-keys, refused-length, htype-is, hlen-is, hardware-there, ciaddr-is, chaddr-is, hardware-is, ids-are, takes}
+use Rattle.deskclaims.proofs.PacketLaws.{refused-keys, refused-length, htype-is, hlen-is, hardware-there, ciaddr-is, chaddr-is, hardware-is, ids-are, no-list, takes}
 
 -- the 16 octets of chaddr where there is no hardware address
 abbrev pub none-set : List ℕ
@@ -41,11 +42,15 @@ module _ (xid giaddr : ℕ) where
     unfolding values
     address-ids = ids-are xid giaddr a 0 0 none-set [] zeros [] (read-end [])
 
+    pub address-no-list : requestList by-address ≡ none
+    unfolding values
+    address-no-list = no-list xid giaddr a 0 0 none-set [] zeros [] (read-end []) refl
+
     pub asks-address : Address giaddr → (giaddr ≡ 0 → ⊥) → (a ≡ 0 → ⊥) → asking by-address ≡ byAddress a
     unfolding values
     asks-address g n m =
         let c = ciaddr-is xid giaddr a 0 0 none-set [] zeros w in
-        takes xid giaddr a 0 0 none-set [] zeros [] (read-end []) g n (omega arith) refl (omega arith)
+        takes xid giaddr a 0 0 none-set [] zeros [] (read-end []) g n (omega arith) refl (omega arith) refl
         (keys-some by-address false [] address-hardware address-ids (λ z. m (sym c ∙ z)))
         (length-is by-address false [] address-hardware address-ids)
         ∙ key-is by-address false [] address-hardware address-ids
@@ -67,6 +72,10 @@ module _ (xid giaddr : ℕ) where
       unfolding values
       hardware-ids = ids-are xid giaddr 0 htype hlen chaddr [] l [] (read-end [])
 
+      pub hardware-no-list : requestList by-hardware ≡ none
+      unfolding values
+      hardware-no-list = no-list xid giaddr 0 htype hlen chaddr [] l [] (read-end []) refl
+
       pub asks-hardware : Address giaddr → (giaddr ≡ 0 → ⊥) → 1 ≤ hlen → hlen ≤ 16 → asking by-hardware ≡ byHardware htype hlen chaddr
       unfolding values
       asks-hardware g n least most =
@@ -74,7 +83,7 @@ module _ (xid giaddr : ℕ) where
           let t = htype-is xid giaddr 0 htype hlen chaddr [] in
           let b = hlen-is xid giaddr 0 htype hlen chaddr [] in
           let c = chaddr-is xid giaddr 0 htype hlen chaddr [] l in
-          takes xid giaddr 0 htype hlen chaddr [] l [] (read-end []) g n (omega arith) refl (omega arith)
+          takes xid giaddr 0 htype hlen chaddr [] l [] (read-end []) g n (omega arith) refl (omega arith) refl
           (keys-zero by-hardware true [] h hardware-ids (ciaddr-is xid giaddr 0 htype hlen chaddr [] l (omega arith)))
           (length-is by-hardware true [] h hardware-ids ∙ rw (b, ne-eqb hlen 0 (λ z. omega (arith, z, least)), le-ltb 16 hlen most))
           ∙ key-is by-hardware true [] h hardware-ids
@@ -115,10 +124,14 @@ module _ (xid giaddr : ℕ) where
     unfolding values
     id-ids = ids-are xid giaddr 0 0 0 none-set (option 61 id) zeros (id-option ∷ []) id-read
 
+    pub id-no-list : requestList by-id ≡ none
+    unfolding values
+    id-no-list = no-list xid giaddr 0 0 0 none-set (option 61 id) zeros (id-option ∷ []) id-read refl
+
     pub asks-id : Address giaddr → (giaddr ≡ 0 → ⊥) → 2 ≤ length id → length id ≤ 255 → asking by-id ≡ byClientId id
     unfolding values
     asks-id g n least most =
-        takes xid giaddr 0 0 0 none-set (option 61 id) zeros (id-option ∷ []) id-read g n (omega (arith, most)) refl (omega arith)
+        takes xid giaddr 0 0 0 none-set (option 61 id) zeros (id-option ∷ []) id-read g n (omega (arith, most)) refl (omega arith) refl
         (keys-zero by-id false (id ∷ []) id-hardware id-ids (ciaddr-is xid giaddr 0 0 0 none-set (option 61 id) zeros (omega arith)))
         (length-is by-id false (id ∷ []) id-hardware id-ids ∙ le-ltb (length id) 2 least)
         ∙ key-is by-id false (id ∷ []) id-hardware id-ids

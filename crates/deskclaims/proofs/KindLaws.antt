@@ -1,13 +1,14 @@
 -- What the desk reads of the replies that the box writes, by their kind. Assumes nothing.
 use Prim.Native.Nat.{ℕ, zero, suc, _+_, _*_, _/_, _%_, _≤_, _<_}
 use mathlib.Core.Path.{_≡_, refl, ap, _∙_}
-use mathlib.Core.Bool.{true, false}
-use mathlib.Core.List.{List, [], _∷_, _++_, append-assoc, append-nil}
-use mathlib.Core.Option.{some}
+use mathlib.Core.Bool.{Bool, true, false, cond}
+use mathlib.Core.List.{List, [], _∷_, _++_, append-nil}
+use mathlib.Core.Logic.{_⊎_, inl, inr}
+use mathlib.Core.Option.{none, some}
 use native.Mathlib.Omega.{arith}
 use native.Mathlib.Nat.{mul-div-cancel-left, mul-mod-right}
 use borrow.Table.Steps.{cases}
-use borrow.Author.Tests.{eqb-true, eqb-false}
+use borrow.Author.Tests.{eqb-true, eqb-false, eq-eqb, le-leb}
 use lib.Dec.{leb, eqb, lit<}
 use lib.ListN.{length, take, drop, length-append}
 use lib.Seq.{length-take-le}
@@ -18,34 +19,67 @@ use Rattle.octets.specs.Number.{bigEndian}
 use Rattle.octets.proofs.NumberLaws.{length-big-endian, number-append, number-big-endian}
 use Rattle.lease.specs.declared.Lease.{Lease}
 use Rattle.leasepacket.specs.Packet.{part, htype, hlen, xid, chaddr}
-use Rattle.leasepacket.specs.Options.{Opt, values}
+use Rattle.leasepacket.specs.Options.{Opt, values, valuesIn}
 use Rattle.leasepacket.specs.Grammar.{Code}
-use Rattle.leasepacket.specs.Layout.{optional}
-use Rattle.leasepacket.specs.ReplyOptions.{inKind}
+use Rattle.leasepacket.specs.Layout.{encoded}
+use Rattle.leasepacket.specs.Requested.{isRequested}
+use Rattle.leasepacket.specs.ReplyOptions.{Lengths, inEvery, inKind, sentBy}
 use Rattle.leasepacket.proofs.QueryLaws.{part-length}
-use Rattle.leasereply.specs.Reply.{fixed, ofLease, flat, otherReply, activeReply}
+use Rattle.leasepacket.proofs.SentLaws.{Codes, only, only-some, sent-codes, under, sent-values}
+use Rattle.leasereply.specs.Reply.{fixed, optionsOf, ofServer, ofLease, flat, otherReply, activeReply}
 use Rattle.leasereply.proofs.ReplyLaws.{flat-length, other-short, active-short}
 use Rattle.deskreply.specs.Reply.{keeps, isKind}
 use Rattle.deskreply.specs.Reading.{numbers, timeBy, addressesBy, told, reading}
 use Rattle.deskclaims.specs.Asks.{Address}
-use Rattle.deskclaims.specs.RoundTrip.{Typed, fromQuery, fromLease}
-use Rattle.deskclaims.proofs.EncodedLaws.{opt, present, encoded, encoded-both, encoded-present, Codes, codes-both, codes-present, listed, listed-some, values-both, values-present, values-other, keeps-listed, few-listed}
-use Rattle.deskclaims.proofs.ReplyLaws.{number-of, kept, Sound, replyOf, well-formed, taken, tells-all}
+use Rattle.deskclaims.specs.RoundTrip.{Typed, timeFor, fromQuery, fromLease}
+use Rattle.deskclaims.specs.Listed.{OnlyIfListed}
+use Rattle.deskclaims.proofs.ReplyLaws.{number-of, kept, Sound, replyOf, its-values, well-formed, taken, tells-all}
 
 code : (c : ℕ) → (c ≡ 0 → ⊥) → (c ≡ 255 → ⊥) → Code c
 code c a b = record { notPadding = a; notEnd = b }
 
+code-53 : Code 53
+code-53 = code 53 (λ z. omega (arith, z)) (λ z. omega (arith, z))
+
+code-54 : Code 54
+code-54 = code 54 (λ z. omega (arith, z)) (λ z. omega (arith, z))
+
+-- ---- an option whose value has a length that its rule gives keeps the rule, sent or not
+module _ (lengths : Lengths) (v : List ℕ) where
+  abbrev Fits : Type 0
+  Fits = (lengths .least ≤ length v) × (length v ≤ lengths .most) × (length v % lengths .unit ≡ 0)
+
+  there-kept : (always : Bool) → 0 < length v → Fits → keeps always lengths (only v) ≡ true
+  unfolding keeps
+  there-kept always h f =
+      ap (keeps always lengths) (only-some v h)
+      ∙ rw (le-leb (lengths .least) (length v) (f .0), le-leb (length v) (lengths .most) (f .1), eq-eqb (length v % lengths .unit) 0 (f .2))
+
+  sent-kept : (b : Bool) → (0 < length v → Fits) → keeps false lengths (cond b (only v) []) ≡ true
+  unfolding keeps
+  sent-kept false f = refl
+  sent-kept true f = cases (eqb (length v) 0) (λ e. none v (eqb-true (length v) 0 e)) (λ e. let h = eqb-false (length v) 0 e in there-kept false (omega (arith, h)) (f (omega (arith, h))))
+    where
+      none : (w : List ℕ) → length w ≡ 0 → keeps false lengths (only w) ≡ true
+      none [] e = refl
+      none (x ∷ xs) e = absurd (omega (arith, e))
+
+few-only : (b : Bool) (v : List ℕ) → leb (length (cond b (only v) [])) 1 ≡ true
+few-only false v = refl
+few-only true [] = refl
+few-only true (x ∷ xs) = refl
+
 -- ---- no lease is active
-module _ (kind server : ℕ) (q : List ℕ) (long : 240 ≤ length q) where
+module _ (kind server : ℕ) (q : List ℕ) (long : 240 ≤ length q) (j : isKind kind ≡ true) (n : eqb kind 13 ≡ false) where
   abbrev otherOptions : List Opt
-  otherOptions = opt 53 (kind ∷ []) ∷ opt 54 (bigEndian 4 server) ∷ []
+  otherOptions = sentBy q (ofServer kind server) inEvery
 
   abbrev otherOf : List ℕ
   otherOf = replyOf q (htype q) (hlen q) (part q 12 4) (chaddr q) otherOptions
 
   other-is : otherReply kind server q ≡ otherOf
-  unfolding otherReply encoded
-  other-is = simp append-assoc refl
+  unfolding otherReply optionsOf
+  other-is = rw n refl
 
   other-sound : Sound q (htype q) (hlen q) (part q 12 4) (chaddr q) otherOptions
   other-sound =
@@ -56,29 +90,38 @@ module _ (kind server : ℕ) (q : List ℕ) (long : 240 ≤ length q) where
         long = long;
         address-4 = part-length q 12 4 (omega arith);
         hardware-16 = part-length q 28 16 (omega arith);
-        codes = (code 53 (λ z. omega (arith, z)) (λ z. omega (arith, z)), (code 54 (λ z. omega (arith, z)) (λ z. omega (arith, z)), tt));
+        codes = sent-codes q (ofServer kind server) inEvery (code-53, (code-54, tt));
         few = omega (arith, e, f, h);
       }
 
-  module _ (j : isKind kind ≡ true) (n : eqb kind 13 ≡ false) where
-    kept-other : kept (inKind kind) otherOptions ≡ true
-    unfolding kept keeps values
-    kept-other = rw (n, length-big-endian 4 server)
+  kind-other : values 53 otherOptions ≡ (kind ∷ []) ∷ []
+  unfolding under ofServer
+  kind-other = sent-values q (ofServer kind server) 53 inEvery
 
-    kind-other : values 53 otherOptions ≡ (kind ∷ []) ∷ []
-    unfolding values
-    kind-other = refl
+  server-other : values 54 otherOptions ≡ only (bigEndian 4 server)
+  unfolding under ofServer
+  server-other = sent-values q (ofServer kind server) 54 inEvery ∙ append-nil (only (bigEndian 4 server))
 
-    few-other : leb (length (values 61 otherOptions)) 1 ≡ true
-    unfolding values
-    few-other = refl
+  kept-other : kept (inKind kind) otherOptions ≡ true
+  unfolding kept
+  kept-other =
+      let l = length-big-endian 4 server in
+      rw (n, kind-other, server-other, there-kept (record { least = 4; most = 4; unit = 1 }) (bigEndian 4 server) true (omega (arith, l)) (omega (arith, l), omega (arith, l), omega (arith, l))) (unfold keeps in refl)
 
-    pub reads-other : hlen q ≤ 16 → reading (xid q) (otherReply kind server q) ≡ told (fromQuery kind q)
-    reads-other h =
-        let r = well-formed q (htype q) (hlen q) (part q 12 4) (chaddr q) otherOptions other-sound kind kind-other h j few-other kept-other in
-        ap (reading (xid q)) other-is
-        ∙ taken q (htype q) (hlen q) (part q 12 4) (chaddr q) otherOptions other-sound kind kind-other r
-        ∙ ap told (tells-all q (htype q) (hlen q) (part q 12 4) (chaddr q) otherOptions other-sound kind kind-other ∙ rw (n, number-of 4 4 q 12 (omega arith)) refl)
+  none-other : (code : ℕ) → eqb 53 code ≡ false → eqb 54 code ≡ false → values code otherOptions ≡ []
+  unfolding under
+  none-other code a b = sent-values q (ofServer kind server) code inEvery ∙ rw (a, b)
+
+  pub lacks-other : (code : ℕ) → eqb 53 code ≡ false → eqb 54 code ≡ false → valuesIn code (otherReply kind server q) ≡ []
+  lacks-other code a b = ap (valuesIn code) other-is ∙ its-values q (htype q) (hlen q) (part q 12 4) (chaddr q) otherOptions other-sound code ∙ none-other code a b
+
+  pub reads-other : hlen q ≤ 16 → reading (xid q) (otherReply kind server q) ≡ told (fromQuery kind q)
+  reads-other h =
+      let few : leb (length (values 61 otherOptions)) 1 ≡ true = rw (none-other 61 refl refl) in
+      let r = well-formed q (htype q) (hlen q) (part q 12 4) (chaddr q) otherOptions other-sound kind kind-other h j few kept-other in
+      ap (reading (xid q)) other-is
+      ∙ taken q (htype q) (hlen q) (part q 12 4) (chaddr q) otherOptions other-sound kind kind-other r
+      ∙ ap told (tells-all q (htype q) (hlen q) (part q 12 4) (chaddr q) otherOptions other-sound kind kind-other ∙ rw (n, number-of 4 4 q 12 (omega arith)) refl)
 
 -- ---- a lease is active: its times and addresses
 left-small : (expiry clock : Moment) → secondsLeft expiry clock .0 < 4294967296
@@ -110,13 +153,13 @@ numbers-back (a ∷ bs) h =
     let l = length-big-endian 4 a in
     rw (number-append 4 (bigEndian 4 a) (flat bs) 0 (omega (arith, l)), number-big-endian 4 a (h .0), drop-past 4 (bigEndian 4 a) (flat bs) l, numbers-back bs (h .1))
 
-addresses-back : (bs : List ℕ) → AllAddress bs → addressesBy (listed (flat bs)) ≡ bs
+addresses-back : (bs : List ℕ) → AllAddress bs → addressesBy (only (flat bs)) ≡ bs
 unfolding flat
 addresses-back [] h = refl
 addresses-back (a ∷ bs) h =
     let l : length (flat (a ∷ bs)) ≡ 4 * length (a ∷ bs) = flat-length (a ∷ bs) in
     let d : length (flat (a ∷ bs)) / 4 ≡ length (a ∷ bs) = ap (λ (n : ℕ). n / 4) l ∙ mul-div-cancel-left (length (a ∷ bs)) (lit< tt) in
-    ap addressesBy (listed-some (flat (a ∷ bs)) (omega (arith, l))) ∙ rw d (numbers-back (a ∷ bs) h)
+    ap addressesBy (only-some (flat (a ∷ bs)) (omega (arith, l))) ∙ rw d (numbers-back (a ∷ bs) h)
 
 -- ---- a lease is active: the reply about it
 take-all : (n : ℕ) (l : List ℕ) → length l ≡ n → take n l ≡ l
@@ -140,106 +183,102 @@ pub record Given (bs : List ℕ) : Type 0 where
   pub most : length bs ≤ 63
 
 module _ (clock : Moment) (server : ℕ) (q : List ℕ) (x : Lease) (bs : List ℕ) (long : 240 ≤ length q) (f : Formed x) (g : Given bs) where
-  abbrev ids : List ℕ
-  ids = take (x .idlen) (x .id)
-
-  abbrev relays : List ℕ
-  relays = take (x .relaylen) (x .relay)
-
-  abbrev seconds-left : List ℕ
-  seconds-left = bigEndian 4 (secondsLeft (x .expiry) clock .0)
-
-  abbrev seconds-since : List ℕ
-  seconds-since = bigEndian 4 (secondsSince (x .last) clock .0)
-
-  abbrev behind : List Opt
-  behind = present 61 ids ++ (present 82 relays ++ (opt 91 seconds-since ∷ present 92 (flat bs)))
+  abbrev said : ℕ → List ℕ
+  said = ofLease clock server x bs
 
   abbrev activeOptions : List Opt
-  activeOptions = opt 53 (13 ∷ []) ∷ opt 54 (bigEndian 4 server) ∷ opt 51 seconds-left ∷ behind
+  activeOptions = sentBy q said (inKind 13)
 
   abbrev activeOf : List ℕ
   activeOf = replyOf q (x .htype) (x .hlen) (bigEndian 4 (x .address)) (x .chaddr) activeOptions
 
-  encoded-behind : encoded behind ≡ optional 61 ids ++ (optional 82 relays ++ (91 ∷ length seconds-since ∷ (seconds-since ++ optional 92 (flat bs))))
-  unfolding encoded
-  encoded-behind = simp (encoded-both, encoded-present, append-nil) refl
-
   active-is : activeReply clock server q x bs ≡ activeOf
-  unfolding activeReply ofLease encoded
-  active-is = rw (take-all 16 (x .chaddr) (f .typed .chaddr), encoded-behind) (simp append-assoc refl)
+  unfolding activeReply optionsOf
+  active-is = rw (take-all 16 (x .chaddr) (f .typed .chaddr)) refl
 
   -- the values of each code
-  values-behind : (code : ℕ) → values code behind ≡ values code (present 61 ids) ++ (values code (present 82 relays) ++ values code (opt 91 seconds-since ∷ present 92 (flat bs)))
-  values-behind code =
-      values-both code (present 61 ids) (present 82 relays ++ (opt 91 seconds-since ∷ present 92 (flat bs)))
-      ∙ ap (λ (l : List (List ℕ)). values code (present 61 ids) ++ l) (values-both code (present 82 relays) (opt 91 seconds-since ∷ present 92 (flat bs)))
+  abbrev sent : ℕ → List (List ℕ)
+  sent code = cond (isRequested q code) (only (said code)) []
 
   values-53 : values 53 activeOptions ≡ (13 ∷ []) ∷ []
-  unfolding values
-  values-53 = rw (values-behind 53, values-other 53 61 refl ids, values-other 53 82 refl relays, values-other 53 92 refl (flat bs))
+  unfolding under ofLease ofServer
+  values-53 = sent-values q said 53 (inKind 13)
 
-  values-54 : values 54 activeOptions ≡ bigEndian 4 server ∷ []
-  unfolding values
-  values-54 = rw (values-behind 54, values-other 54 61 refl ids, values-other 54 82 refl relays, values-other 54 92 refl (flat bs))
+  values-54 : values 54 activeOptions ≡ only (bigEndian 4 server)
+  unfolding under ofLease ofServer
+  values-54 = sent-values q said 54 (inKind 13) ∙ append-nil (only (bigEndian 4 server))
 
-  values-51 : values 51 activeOptions ≡ seconds-left ∷ []
-  unfolding values
-  values-51 = rw (values-behind 51, values-other 51 61 refl ids, values-other 51 82 refl relays, values-other 51 92 refl (flat bs))
+  values-51 : values 51 activeOptions ≡ sent 51
+  unfolding under
+  values-51 = sent-values q said 51 (inKind 13) ∙ append-nil (sent 51)
 
-  values-61 : values 61 activeOptions ≡ listed ids
-  unfolding values
-  values-61 = rw (values-behind 61, values-present 61 ids, values-other 61 82 refl relays, values-other 61 92 refl (flat bs)) (append-nil (listed ids))
+  values-61 : values 61 activeOptions ≡ sent 61
+  unfolding under
+  values-61 = sent-values q said 61 (inKind 13) ∙ append-nil (sent 61)
 
-  values-82 : values 82 activeOptions ≡ listed relays
-  unfolding values
-  values-82 = rw (values-behind 82, values-other 82 61 refl ids, values-present 82 relays, values-other 82 92 refl (flat bs)) (append-nil (listed relays))
+  values-82 : values 82 activeOptions ≡ sent 82
+  unfolding under
+  values-82 = sent-values q said 82 (inKind 13) ∙ append-nil (sent 82)
 
-  values-91 : values 91 activeOptions ≡ seconds-since ∷ []
-  unfolding values
-  values-91 = rw (values-behind 91, values-other 91 61 refl ids, values-other 91 82 refl relays, values-other 91 92 refl (flat bs))
+  values-91 : values 91 activeOptions ≡ sent 91
+  unfolding under
+  values-91 = sent-values q said 91 (inKind 13) ∙ append-nil (sent 91)
 
-  values-92 : values 92 activeOptions ≡ listed (flat bs)
-  unfolding values
-  values-92 = rw (values-behind 92, values-other 92 61 refl ids, values-other 92 82 refl relays, values-present 92 (flat bs))
+  values-92 : values 92 activeOptions ≡ only (flat bs)
+  unfolding under ofLease
+  values-92 = sent-values q said 92 (inKind 13) ∙ append-nil (only (flat bs))
 
   -- each keeps its rule
-  ids-length : length ids ≡ x .idlen
+  ids-length : length (take (x .idlen) (x .id)) ≡ x .idlen
   ids-length = length-take-le (x .idlen) (x .id) (omega (arith, f .idlen, f .typed .id))
 
-  relays-length : length relays ≡ x .relaylen
+  relays-length : length (take (x .relaylen) (x .relay)) ≡ x .relaylen
   relays-length = length-take-le (x .relaylen) (x .relay) (omega (arith, f .relaylen, f .typed .relay))
 
-  rule-4 : (code : ℕ) (v : ℕ) → keeps (record { code = code; always = true; least = 4; most = 4; unit = 1 }) (bigEndian 4 v ∷ []) ≡ true
-  unfolding keeps
-  rule-4 code v = rw (length-big-endian 4 v)
+  abbrev four : Lengths
+  four = record { least = 4; most = 4; unit = 1 }
 
-  rule-61 : keeps (record { code = 61; always = false; least = 2; most = 64; unit = 1 }) (listed ids) ≡ true
-  rule-61 = keeps-listed _ refl ids (λ h. (not-one h, omega (arith, ids-length, f .idlen), mod-one (length ids)))
+  rule-54 : keeps true four (only (bigEndian 4 server)) ≡ true
+  rule-54 = let l = length-big-endian 4 server in there-kept four (bigEndian 4 server) true (omega (arith, l)) (omega (arith, l), omega (arith, l), omega (arith, l))
+
+  time-kept : (code v : ℕ) → said code ≡ bigEndian 4 v → keeps false four (sent code) ≡ true
+  time-kept code v e = let l = length-big-endian 4 v in rw e (sent-kept four (bigEndian 4 v) (isRequested q code) (λ h. (omega (arith, l), omega (arith, l), omega (arith, l))))
+
+  rule-51 : keeps false four (sent 51) ≡ true
+  unfolding ofLease
+  rule-51 = time-kept 51 (secondsLeft (x .expiry) clock .0) refl
+
+  rule-91 : keeps false four (sent 91) ≡ true
+  unfolding ofLease
+  rule-91 = time-kept 91 (secondsSince (x .last) clock .0) refl
+
+  rule-61 : keeps false (record { least = 2; most = 64; unit = 1 }) (sent 61) ≡ true
+  unfolding ofLease
+  rule-61 = sent-kept _ (take (x .idlen) (x .id)) (isRequested q 61) (λ h. (not-one h, omega (arith, ids-length, f .idlen), omega arith))
     where
-      mod-one : (n : ℕ) → n % 1 ≡ 0
-      mod-one n = omega arith
-
-      not-one : 0 < length ids → 2 ≤ length ids
+      not-one : 0 < length (take (x .idlen) (x .id)) → 2 ≤ length (take (x .idlen) (x .id))
       not-one h = cases (eqb (x .idlen) 1) (λ e. absurd (f .not-1 (eqb-true (x .idlen) 1 e))) (λ e. let z = eqb-false (x .idlen) 1 e in omega (arith, h, ids-length, z))
 
-  rule-82 : keeps (record { code = 82; always = false; least = 1; most = 64; unit = 1 }) (listed relays) ≡ true
-  rule-82 = keeps-listed _ refl relays (λ h. (omega (arith, h), omega (arith, relays-length, f .relaylen), omega arith))
+  rule-82 : keeps false (record { least = 1; most = 64; unit = 1 }) (sent 82) ≡ true
+  unfolding ofLease
+  rule-82 = sent-kept _ (take (x .relaylen) (x .relay)) (isRequested q 82) (λ h. (omega (arith, h), omega (arith, relays-length, f .relaylen), omega arith))
 
-  rule-92 : keeps (record { code = 92; always = false; least = 8; most = 252; unit = 4 }) (listed (flat bs)) ≡ true
+  rule-92 : keeps false (record { least = 8; most = 252; unit = 4 }) (only (flat bs)) ≡ true
   rule-92 =
       let l : length (flat bs) ≡ 4 * length bs = flat-length bs in
-      keeps-listed _ refl (flat bs) (λ h. (least l h, omega (arith, l, g .most), ap (λ (n : ℕ). n % 4) l ∙ mul-mod-right 4 (length bs)))
+      sent-kept _ (flat bs) true (λ h. (least l h, omega (arith, l, g .most), ap (λ (n : ℕ). n % 4) l ∙ mul-mod-right 4 (length bs)))
     where
       least : length (flat bs) ≡ 4 * length bs → 0 < length (flat bs) → 8 ≤ length (flat bs)
       least l h = cases (eqb (length bs) 1) (λ e. absurd (g .not-1 (eqb-true (length bs) 1 e))) (λ e. let z = eqb-false (length bs) 1 e in omega (arith, l, h, z))
 
   kept-active : kept (inKind 13) activeOptions ≡ true
   unfolding kept
-  kept-active = rw (values-53, values-54, values-51, values-61, values-82, values-91, values-92, rule-4 54 server, rule-4 51 (secondsLeft (x .expiry) clock .0), rule-61, rule-82, rule-4 91 (secondsSince (x .last) clock .0), rule-92) (unfold keeps in refl)
+  kept-active = rw (values-53, values-54, values-51, values-61, values-82, values-91, values-92, rule-54, rule-51, rule-61, rule-82, rule-91, rule-92) (unfold keeps in refl)
 
   active-codes : Codes activeOptions
-  active-codes = (code 53 (λ z. omega (arith, z)) (λ z. omega (arith, z)), (code 54 (λ z. omega (arith, z)) (λ z. omega (arith, z)), (code 51 (λ z. omega (arith, z)) (λ z. omega (arith, z)), codes-both (present 61 ids) _ (codes-present 61 ids (code 61 (λ z. omega (arith, z)) (λ z. omega (arith, z)))) (codes-both (present 82 relays) _ (codes-present 82 relays (code 82 (λ z. omega (arith, z)) (λ z. omega (arith, z)))) (code 91 (λ z. omega (arith, z)) (λ z. omega (arith, z)), codes-present 92 (flat bs) (code 92 (λ z. omega (arith, z)) (λ z. omega (arith, z))))))))
+  active-codes =
+      sent-codes q said (inKind 13)
+      (code-53, (code-54, (code 51 (λ z. omega (arith, z)) (λ z. omega (arith, z)), (code 61 (λ z. omega (arith, z)) (λ z. omega (arith, z)), (code 82 (λ z. omega (arith, z)) (λ z. omega (arith, z)), (code 91 (λ z. omega (arith, z)) (λ z. omega (arith, z)), (code 92 (λ z. omega (arith, z)) (λ z. omega (arith, z)), tt)))))))
 
   active-sound : Sound q (x .htype) (x .hlen) (bigEndian 4 (x .address)) (x .chaddr) activeOptions
   active-sound =
@@ -254,10 +293,36 @@ module _ (clock : Moment) (server : ℕ) (q : List ℕ) (x : Lease) (bs : List �
         few = omega (arith, e, l, h);
       }
 
-  pub reads-active : reading (xid q) (activeReply clock server q x bs) ≡ told (fromLease clock x bs)
+  -- the times
+  time-sent : (code : ℕ) (s : Span) → said code ≡ bigEndian 4 (s .0) → s .0 < 4294967296 → timeBy (sent code) ≡ timeFor q code s
+  time-sent code s e h = rw e (go (isRequested q code))
+    where
+      go : (b : Bool) → timeBy (cond b (only (bigEndian 4 (s .0))) []) ≡ cond b (some s) none
+      go true = let l = length-big-endian 4 (s .0) in ap timeBy (only-some (bigEndian 4 (s .0)) (omega (arith, l))) ∙ time-back s h
+      go false = refl
+
+  left-sent : timeBy (sent 51) ≡ timeFor q 51 (secondsLeft (x .expiry) clock)
+  unfolding ofLease
+  left-sent = time-sent 51 (secondsLeft (x .expiry) clock) refl (left-small (x .expiry) clock)
+
+  since-sent : timeBy (sent 91) ≡ timeFor q 91 (secondsSince (x .last) clock)
+  unfolding ofLease
+  since-sent = time-sent 91 (secondsSince (x .last) clock) refl (since-small (x .last) clock)
+
+  pub reads-active : reading (xid q) (activeReply clock server q x bs) ≡ told (fromLease clock q x bs)
   reads-active =
-      let r = well-formed q (x .htype) (x .hlen) (bigEndian 4 (x .address)) (x .chaddr) activeOptions active-sound 13 values-53 (f .hlen) refl (rw values-61 (few-listed ids)) kept-active in
+      let r = well-formed q (x .htype) (x .hlen) (bigEndian 4 (x .address)) (x .chaddr) activeOptions active-sound 13 values-53 (f .hlen) refl (rw values-61 (few-only (isRequested q 61) (said 61))) kept-active in
       ap (reading (xid q)) active-is
       ∙ taken q (x .htype) (x .hlen) (bigEndian 4 (x .address)) (x .chaddr) activeOptions active-sound 13 values-53 r
       ∙ ap told (tells-all q (x .htype) (x .hlen) (bigEndian 4 (x .address)) (x .chaddr) activeOptions active-sound 13 values-53
-      ∙ rw (number-big-endian 4 (x .address) (f .typed .address), values-51, values-91, values-92, time-back (secondsLeft (x .expiry) clock) (left-small (x .expiry) clock), time-back (secondsSince (x .last) clock) (since-small (x .last) clock), addresses-back bs (g .small)) refl)
+      ∙ rw (number-big-endian 4 (x .address) (f .typed .address), values-51, values-91, values-92, left-sent, since-sent, addresses-back bs (g .small)) refl)
+
+  -- what was not asked for is not there
+  lacks : (code : ℕ) → values code activeOptions ≡ sent code → isRequested q code ≡ false → valuesIn code (activeReply clock server q x bs) ≡ []
+  lacks code e r = ap (valuesIn code) active-is ∙ its-values q (x .htype) (x .hlen) (bigEndian 4 (x .address)) (x .chaddr) activeOptions active-sound code ∙ e ∙ rw r
+
+  pub lacks-active : (code : ℕ) → OnlyIfListed code → isRequested q code ≡ false → valuesIn code (activeReply clock server q x bs) ≡ []
+  lacks-active code (inl e) r = rw e (lacks 51 values-51 (rw e at r))
+  lacks-active code (inr (inl e)) r = rw e (lacks 61 values-61 (rw e at r))
+  lacks-active code (inr (inr (inl e))) r = rw e (lacks 82 values-82 (rw e at r))
+  lacks-active code (inr (inr (inr e))) r = rw e (lacks 91 values-91 (rw e at r))

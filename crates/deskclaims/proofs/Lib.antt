@@ -2,7 +2,6 @@
 pub mod PacketLaws
 pub mod KeyLaws
 pub mod Asks
-pub mod EncodedLaws
 pub mod ReplyLaws
 pub mod KindLaws
 pub mod RoundTrip

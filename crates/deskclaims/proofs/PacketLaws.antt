@@ -4,7 +4,7 @@ use mathlib.Core.Path.{_≡_, refl, sym, ap, _∙_}
 use mathlib.Core.Bool.{Bool, true, false, not, _||_, or-true}
 use mathlib.Core.List.{List, [], _∷_, _++_, append-assoc}
 use mathlib.Core.Logic.{_⊎_, inl, inr}
-use mathlib.Core.Option.{some}
+use mathlib.Core.Option.{none, some}
 use native.Mathlib.Omega.{arith}
 use borrow.Table.Steps.{cases}
 use borrow.Author.Tests.{eq-eqb, ne-eqb, le-leb}
@@ -17,6 +17,7 @@ use Rattle.leasepacket.specs.Packet as read
 use Rattle.leasepacket.specs.Packet.{part, optionArea, isPacket}
 use Rattle.leasepacket.specs.Layout.{fixedFields, option}
 use Rattle.leasepacket.specs.Options.{Opt, followed, options, values, valuesOf, valuesIn, hasOptions}
+use Rattle.leasepacket.specs.Requested.{listBy, requestList}
 use Rattle.leasepacket.specs.Query.{Asked, refused, anySet, hasHardwareKey, keys, keyOf, hasBadLength, refusals, firstOf, asking}
 use Rattle.leasepacket.proofs.LayoutLaws.{Sized, read-op, read-ciaddr, read-giaddr, read-chaddr, read-area, read-packet, read-option}
 use Rattle.deskquery.specs.Query.{packet}
@@ -25,9 +26,9 @@ use Rattle.deskclaims.specs.Asks.{Address}
 -- ---- the checks of any packet
 module _ (p : List ℕ) where
   -- where every check passes, the packet asks for its key
-  pub passes : (os : List Opt) → isPacket p ≡ true → read.op p ≡ 1 → options 0 (optionArea p) ≡ some os → values 53 os ≡ (10 ∷ []) ∷ [] → length (values 61 os) ≤ 1 → (read.giaddr p ≡ 0 → ⊥) → keys p ≡ 1 → hasBadLength p ≡ false → asking p ≡ keyOf p
+  pub passes : (os : List Opt) → isPacket p ≡ true → read.op p ≡ 1 → options 0 (optionArea p) ≡ some os → values 53 os ≡ (10 ∷ []) ∷ [] → length (values 61 os) ≤ 1 → values 55 os ≡ [] → (read.giaddr p ≡ 0 → ⊥) → keys p ≡ 1 → hasBadLength p ≡ false → asking p ≡ keyOf p
   unfolding asking refusals firstOf hasOptions sameOctets
-  passes os a b c d e f g h = rw (a, eq-eqb (read.op p) 1 b, c, d, le-leb (length (values 61 os)) 1 e, ne-eqb (read.giaddr p) 0 f, eq-eqb (keys p) 1 g, h)
+  passes os a b c d e l f g h = rw (a, eq-eqb (read.op p) 1 b, c, d, le-leb (length (values 61 os)) 1 e, l, ne-eqb (read.giaddr p) 0 f, eq-eqb (keys p) 1 g, h)
 
 -- some check of a list does not pass
 abbrev Applies : List (ℕ × Bool) → Type 0
@@ -128,9 +129,14 @@ module _ (xid giaddr ciaddr htype hlen : ℕ) (chaddr id : List ℕ) where
       unfolding values
       ids-are = ap (valuesOf 61) (options-are os o)
 
-      -- with a giaddr, one message type and one key of a length that it may have, every check passes
-      pub takes : Address giaddr → (giaddr ≡ 0 → ⊥) → length id ≤ 257 → values 53 os ≡ [] → length (values 61 os) ≤ 1 → keys query ≡ 1 → hasBadLength query ≡ false → asking query ≡ keyOf query
+      -- a list can only be among them
+      pub no-list : values 55 os ≡ [] → requestList query ≡ none
       unfolding values
-      takes g n h v i k b =
-          passes query (kind ∷ os) (packet-is h) op-is (options-are os o) (ap (λ (vs : List (List ℕ)). (10 ∷ []) ∷ vs) v) i
+      no-list l = ap listBy (ap (valuesOf 55) (options-are os o) ∙ l)
+
+      -- with a giaddr, one message type and one key of a length that it may have, every check passes
+      pub takes : Address giaddr → (giaddr ≡ 0 → ⊥) → length id ≤ 257 → values 53 os ≡ [] → length (values 61 os) ≤ 1 → values 55 os ≡ [] → keys query ≡ 1 → hasBadLength query ≡ false → asking query ≡ keyOf query
+      unfolding values
+      takes g n h v i l k b =
+          passes query (kind ∷ os) (packet-is h) op-is (options-are os o) (ap (λ (vs : List (List ℕ)). (10 ∷ []) ∷ vs) v) i l
           (λ z. n (sym (giaddr-is g) ∙ z)) k b

@@ -12,13 +12,14 @@ use borrow.Author.Tests.{eq-eqb, le-leb}
 use Rattle.octets.specs.Number.{numberAt}
 use Rattle.leasepacket.specs.Packet.{part, op, htype, hlen, xid, ciaddr, chaddr, optionArea, isPacket}
 use Rattle.leasepacket.specs.Options.{Opt, options, values, valuesOf, valuesIn, hasOptions}
-use Rattle.leasepacket.specs.ReplyOptions.{Rule, inKind}
+use Rattle.leasepacket.specs.Layout.{encoded}
+use Rattle.leasepacket.specs.ReplyOptions.{Rule, inKind, isAlways}
 use Rattle.leasepacket.proofs.QueryLaws.{part-length}
 use Rattle.leasepacket.proofs.LayoutLaws.{Sized, read-op, read-htype, read-hlen, read-chaddr, read-xid, read-ciaddr, read-area, read-packet}
+use Rattle.leasepacket.proofs.SentLaws.{Codes, read-encoded}
 use Rattle.leasereply.specs.Reply.{fixed}
 use Rattle.deskreply.specs.Reply.{keeps, keepsAll, kindBy, isKind, isReply}
 use Rattle.deskreply.specs.Reading.{timeBy, addressesBy, tells, told, reading}
-use Rattle.deskclaims.proofs.EncodedLaws.{encoded, Codes, read-encoded}
 
 -- ---- a number of a part
 octet-of : (k : ℕ) (l : List ℕ) (i : ℕ) → i < k → getD (take k l) i 0 ≡ getD l i 0
@@ -37,7 +38,7 @@ number-of (suc width) k q at h =
 -- the rules that options keep, by their values
 unfoldable pub kept : List Rule → List Opt → Bool
 kept [] os = true
-kept (rule ∷ rules) os = keeps rule (values (rule .code) os) && kept rules os
+kept (r ∷ rs) os = keeps (isAlways (r .sent)) (r .lengths) (values (r .code) os) && kept rs os
 
 -- ---- a reply to a query: fixed fields, options, and the end
 module _ (q : List ℕ) (htypeof hlenof : ℕ) (address hardware : List ℕ) (os : List Opt) where
@@ -99,13 +100,13 @@ module _ (q : List ℕ) (htypeof hlenof : ℕ) (address hardware : List ℕ) (os
     unfolding fixed
     its-options = ap (options 0) (read-area 2 htypeof hlenof _ _ _ _ _ sized rest) ∙ read-encoded os (s .codes) []
 
-    its-values : (code : ℕ) → valuesIn code replyOf ≡ values code os
+    pub its-values : (code : ℕ) → valuesIn code replyOf ≡ values code os
     its-values code = ap (valuesOf code) its-options
 
-    its-kept : (rules : List Rule) → keepsAll rules replyOf ≡ kept rules os
+    its-kept : (rs : List Rule) → keepsAll rs replyOf ≡ kept rs os
     unfolding keepsAll kept
     its-kept [] = refl
-    its-kept (rule ∷ rules) = rw (its-values (rule .code), its-kept rules)
+    its-kept (r ∷ rs) = rw (its-values (r .code), its-kept rs)
 
     module _ (kind : ℕ) (k : values 53 os ≡ (kind ∷ []) ∷ []) where
       its-kind : kindBy (valuesIn 53 replyOf) ≡ kind

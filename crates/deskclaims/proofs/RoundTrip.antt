@@ -1,20 +1,25 @@
--- The claim of specs/RoundTrip.antt. Assumes nothing.
+-- The claims of specs/RoundTrip.antt and specs/Listed.antt. Assumes nothing.
 use Prim.Native.Nat.{ℕ, zero, suc, _≤_, _<_}
 use mathlib.Core.Path.{_≡_, refl, sym, ap, _∙_, subst}
-use mathlib.Core.Bool.{Bool, true, not, _&&_, true≢false}
+use mathlib.Core.Bool.{Bool, true, false, cond, not, _&&_, true≢false}
 use mathlib.Core.List.{List, [], _∷_, map}
 use mathlib.Core.Logic.{_⊎_, inl, inr}
+use mathlib.Core.Option.{Option, none, some}
 use native.Mathlib.Omega.{arith}
 use borrow.Table.Steps.{cases}
 use borrow.Author.Tests.{eq-eqb, leb-true}
 use lib.Dec.{leb, eqb}
 use lib.ListN.{length, getD, take, drop, length-take, length-map}
 use lib.Seq.{take-append-seam}
+use Rattle.clock.specs.declared.Span.{Span}
+use Rattle.clock.specs.Clock.{secondsLeft, secondsSince}
 use Rattle.octets.specs.Write.{laid}
 use Rattle.octets.proofs.BoolLaws.{and-left, and-right}
 use Rattle.lease.specs.declared.Lease.{Lease}
 use Rattle.lease.specs.Lease.{noLease, activeAt, wellFormed, lengthsFit, momentsFit, hardwareFits}
 use Rattle.leasepacket.specs.Packet.{xid, hlen}
+use Rattle.leasepacket.specs.Options.{valuesIn}
+use Rattle.leasepacket.specs.Requested.{requestList, requestedBy, isRequested}
 use Rattle.leasepacket.specs.Query.{Asked, refused, byAddress, byHardware, byClientId, asking}
 use Rattle.leasepacket.proofs.QueryLaws.{NotRefused, asked-fits, asking-sound, Sound}
 use Rattle.leasetable.specs.Table.{tableFits, those, ranked}
@@ -26,10 +31,11 @@ use Rattle.leaseclaims.proofs.OrderLaws.{formed-at}
 use Rattle.leaseclaims.proofs.Claims.{answer-is, rises, table-fits}
 use Rattle.deskreply.specs.Reading.{reading}
 use Rattle.deskreply.specs.Reading as read
-use Rattle.deskreply.specs.Promise.{answered}
+use Rattle.deskreply.specs.Promise.{isThere, answered}
 use Rattle.deskclaims.specs.Asks.{Address}
-use Rattle.deskclaims.specs.RoundTrip.{Typed, AllTyped, replied, ReadBack, fromQuery, ReadsQuery, ReadsLease, RoundTrip}
-use Rattle.deskclaims.proofs.KindLaws.{AllAddress, Formed, Given, reads-other, reads-active}
+use Rattle.deskclaims.specs.RoundTrip.{Typed, AllTyped, replied, ReadBack, timeFor, fromQuery, fromLease, ReadsQuery, NotListed, AbsentExactly, ReadsLease, RoundTrip}
+use Rattle.deskclaims.specs.Listed.{OnlyIfListed, SendsOnlyListed}
+use Rattle.deskclaims.proofs.KindLaws.{AllAddress, Formed, Given, lacks-other, reads-other, reads-active, lacks-active}
 
 -- ---- what is known of the records of a table
 typed-at : (t : List Lease) → AllTyped t → (i : ℕ) → i < length t → Typed (getD t i noLease)
@@ -174,6 +180,26 @@ module _ (c : Call) (r : c .result .refusal ≡ 0) where
       go (byHardware htype hlen o) s e = tt
       go (byClientId o) s e = tt
 
+-- ---- what a query does not ask for: it listed options, and not this one
+not-listed : (query : List ℕ) (code : ℕ) → isRequested query code ≡ false → NotListed query code
+unfolding isRequested
+not-listed query code e = go (requestList query) refl e
+  where
+    go : (list : Option (List ℕ)) → requestList query ≡ list → requestedBy code list ≡ false → NotListed query code
+    go none l f = absurd (true≢false f)
+    go (some codes) l f = (codes, l, f)
+
+pub not-requested : (query : List ℕ) (code : ℕ) → NotListed query code → isRequested query code ≡ false
+unfolding isRequested
+not-requested query code n = ap (requestedBy code) (n .1) ∙ n .2
+
+absent-exactly : (query : List ℕ) (code there : ℕ) (time : Span) → there ≡ isThere (timeFor query code time) → AbsentExactly query code there
+absent-exactly query code there time e = (λ z. not-listed query code (absent (isRequested query code) (sym e ∙ z)), λ n. e ∙ rw (not-requested query code n))
+  where
+    absent : (b : Bool) → isThere (cond b (some time) none) ≡ 0 → b ≡ false
+    absent true z = absurd (let one : _≡_ {A = ℕ} 1 0 = z in omega (arith, one))
+    absent false z = refl
+
 -- ---- the claim
 module _ (c : Call) (d : ReadBack c) (r : c .result .refusal ≡ 0) where
   from-other : (kind : ℕ) (octets : List ℕ) → outcome c r ≡ reply kind octets → (kind ≡ 11) ⊎ (kind ≡ 12) → octets ≡ otherReply kind (c .server) (c .query) → ReadsQuery c d
@@ -194,6 +220,8 @@ module _ (c : Call) (d : ReadBack c) (r : c .result .refusal ≡ 0) where
   from-active a f kind octets e w =
       let q = asked-fits (c .query) (not-refused c r) in
       let p : written (outcome c r) ≡ activeReply (c .clock) (c .server) (c .query) (w .lease) (w .addresses) = ap written e ∙ w .are in
+      let b : d .result ≡ answered (read.told (fromLease (c .clock) (c .query) (w .lease) (w .addresses))) =
+      d .promised ∙ ap (λ (l : List ℕ). answered (reading (xid (c .query)) l)) (replied-is c r ∙ p) ∙ ap answered (reads-active (c .clock) (c .server) (c .query) (w .lease) (w .addresses) (q .0) (w .good) (w .listed)) in
       record {
         kind = ap (λ x. x .kind) (answers c r ∙ ap told e) ∙ w .number;
         lease = w .lease;
@@ -202,13 +230,40 @@ module _ (c : Call) (d : ReadBack c) (r : c .result .refusal ≡ 0) where
         active = w .active;
         stands = w .stands;
         written = writes c r ∙ ap (λ (l : List ℕ). laid l (c .buffer)) p;
-        reads = d .promised ∙ ap (λ (l : List ℕ). answered (reading (xid (c .query)) l)) (replied-is c r ∙ p) ∙ ap answered (reads-active (c .clock) (c .server) (c .query) (w .lease) (w .addresses) (q .0) (w .good) (w .listed));
+        reads = b;
+        left = absent-exactly (c .query) 51 (d .result .«has_left») (secondsLeft (w .lease .expiry) (c .clock)) (ap (λ x. x .«has_left») b);
+        since = absent-exactly (c .query) 91 (d .result .«has_since») (secondsSince (w .lease .last) (c .clock)) (ap (λ x. x .«has_since») b);
       }
 
   by-outcome : (a : AllTyped (c .table)) (f : tableFits (c .table) ≡ true) (w : Outcome) → outcome c r ≡ w → Back c a f (hasKey (asking (c .query))) w → ReadsQuery c d ⊎ ReadsLease c d
   by-outcome a f (refusal n) e b = absurd b
   by-outcome a f (reply kind octets) e (inl o) = inl (from-other kind octets e (o .number) (o .are))
   by-outcome a f (reply kind octets) e (inr o) = inr (from-active a f kind octets e o)
+
+-- ---- what was not listed is not sent
+-- it is neither the kind nor the server's address
+neither : (code : ℕ) → OnlyIfListed code → (eqb 53 code ≡ false) × (eqb 54 code ≡ false)
+neither code (inl e) = rw e (refl, refl)
+neither code (inr (inl e)) = rw e (refl, refl)
+neither code (inr (inr (inl e))) = rw e (refl, refl)
+neither code (inr (inr (inr e))) = rw e (refl, refl)
+
+module _ (c : Call) (r : c .result .refusal ≡ 0) (code : ℕ) (o : OnlyIfListed code) (n : NotListed (c .query) code) where
+  lacks-reply : (a : AllTyped (c .table)) (f : tableFits (c .table) ≡ true) (w : Outcome) → Back c a f (hasKey (asking (c .query))) w → valuesIn code (written w) ≡ []
+  lacks-reply a f (refusal m) b = absurd b
+  lacks-reply a f (reply kind octets) (inl b) = ap (valuesIn code) (b .are) ∙ lacks-kind kind (b .number)
+    where
+      lacks-kind : (m : ℕ) → (m ≡ 11) ⊎ (m ≡ 12) → valuesIn code (otherReply m (c .server) (c .query)) ≡ []
+      lacks-kind m (inl z) = rw z (lacks-other 11 (c .server) (c .query) (asked-fits (c .query) (not-refused c r) .0) refl refl code (neither code o .0) (neither code o .1))
+      lacks-kind m (inr z) = rw z (lacks-other 12 (c .server) (c .query) (asked-fits (c .query) (not-refused c r) .0) refl refl code (neither code o .0) (neither code o .1))
+  lacks-reply a f (reply kind octets) (inr b) =
+      ap (valuesIn code) (b .are)
+      ∙ lacks-active (c .clock) (c .server) (c .query) (b .lease) (b .addresses) (asked-fits (c .query) (not-refused c r) .0) (b .good) (b .listed) code o (not-requested (c .query) code n)
+
+pub sends-only-listed : SendsOnlyListed
+sends-only-listed c a r code o n =
+    ap (valuesIn code) (replied-is c r)
+    ∙ lacks-reply c r code o n a (table-fits c r) (outcome c r) (back c a (table-fits c r) (asking (c .query)) (not-refused c r))
 
 pub round-trip : RoundTrip
 round-trip c d a r = by-outcome c d r a (table-fits c r) (outcome c r) refl (back c a (table-fits c r) (asking (c .query)) (not-refused c r))

@@ -1,9 +1,11 @@
--- Every query that a desk writes is one that a box takes, said of any results that meet the promises of the calls. Document 02, d).
+-- Every query that a desk writes is one that a box takes, said of any results that meet the promises of the calls. Document 02, d) and e).
 use Prim.Native.Nat.{ℕ, _<_}
 use mathlib.Core.Path.{_≡_}
 use mathlib.Core.List.{List}
 use mathlib.Core.Logic.{_⊎_}
+use mathlib.Core.Option.{none}
 use lib.ListN.{length, take}
+use Rattle.leasepacket.specs.Requested.{requestList}
 use Rattle.leasepacket.specs.Query.{Asked, refused, byAddress, byClientId, asking}
 use Rattle.deskquery.specs.declared.QueryAnswer.{QueryAnswer}
 use Rattle.deskquery.specs.Query.{hardwareKey, queryBy}
@@ -50,6 +52,10 @@ sent a = take (a .result .length) (a .after)
 -- A query that was written passes the box's checks 1 to 7, and asks for the key that the call was handed.
 abbrev pub AsksForItsKey : Type 0
 AsksForItsKey = (a : Asking) → a .result .refusal ≡ 0 → asking (sent a) ≡ keyOf (a .handed)
+
+-- It has no list of options, so that the reply to it leaves none out (document 02, e)).
+abbrev pub AsksForAll : Type 0
+AsksForAll = (a : Asking) → a .result .refusal ≡ 0 → requestList (sent a) ≡ none
 
 -- So the box's call refuses it only for what is its own: its clock (15), its table (9), its buffer (8).
 abbrev pub Own : ℕ → Type 0

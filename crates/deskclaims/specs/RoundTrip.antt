@@ -1,17 +1,20 @@
 -- Every reply that a box writes is read back with the fields that it was written from, said of any results that meet the promises of the
--- two calls. Document 02, d).
+-- two calls. Document 02, d) and e).
 use Prim.Native.Nat.{ℕ}
 use mathlib.Core.Path.{_≡_}
+use mathlib.Core.Bool.{false, cond}
 use mathlib.Core.List.{List, [], _∷_}
 use mathlib.Core.Logic.{_⊎_}
-use mathlib.Core.Option.{none, some}
+use mathlib.Core.Option.{Option, none, some}
 use lib.ListN.{length, getD, take}
 use Rattle.clock.specs.declared.Moment.{Moment}
+use Rattle.clock.specs.declared.Span.{Span}
 use Rattle.clock.specs.Clock.{secondsLeft, secondsSince}
 use Rattle.octets.specs.Write.{laid}
 use Rattle.lease.specs.declared.Lease.{Lease}
 use Rattle.lease.specs.Lease.{noLease}
-use Rattle.leasepacket.specs.Packet.{htype, hlen, xid, ciaddr, chaddr}
+use Rattle.leasepacket.specs.Packet.{htype, hlen, xid, ciaddr, chaddr, leaseTime, lastTransactionTime}
+use Rattle.leasepacket.specs.Requested.{requestList, isListed, isRequested}
 use Rattle.leasepacket.specs.Query.{asking}
 use Rattle.leasereply.specs.Reply.{activeReply}
 use Rattle.leasequery.specs.Answer.{hasKey}
@@ -55,17 +58,21 @@ fromQuery kind query =
       addresses = [];
     }
 
--- Those of a reply about an active lease: the record's, with the seconds of options 51 and 91 and the addresses of option 92.
-abbrev pub fromLease : Moment → Lease → List ℕ → Told
-fromLease clock x addresses =
+-- A time goes out under its code if the query asks for it.
+abbrev pub timeFor : List ℕ → ℕ → Span → Option Span
+timeFor query code time = cond (isRequested query code) (some time) none
+
+-- The fields of a reply about an active lease: the record's, with the seconds of options 51 and 91 and the addresses of option 92.
+abbrev pub fromLease : Moment → List ℕ → Lease → List ℕ → Told
+fromLease clock query x addresses =
     record {
       kind = 13;
       address = x .address;
       htype = x .htype;
       hlen = x .hlen;
       chaddr = x .chaddr;
-      left = some (secondsLeft (x .expiry) clock);
-      since = some (secondsSince (x .last) clock);
+      left = timeFor query leaseTime (secondsLeft (x .expiry) clock);
+      since = timeFor query lastTransactionTime (secondsSince (x .last) clock);
       addresses = addresses;
     }
 
@@ -74,8 +81,16 @@ pub record ReadsQuery (c : Call) (d : ReadBack c) : Type 0 where
   pub kind : (c .result .kind ≡ 11) ⊎ (c .result .kind ≡ 12)
   pub reads : d .result ≡ answered (told (fromQuery (c .result .kind) (c .query)))
 
+-- A query listed options, and not this one.
+abbrev pub NotListed : List ℕ → ℕ → Type 0
+NotListed query code = (codes : List ℕ) × (requestList query ≡ some codes) × (isListed code codes ≡ false)
+
+-- The number that says whether a time is there is 0 exactly where the query listed options and not this one.
+abbrev pub AbsentExactly : List ℕ → ℕ → ℕ → Type 0
+AbsentExactly query code there = (there ≡ 0 → NotListed query code) × (NotListed query code → there ≡ 0)
+
 -- A lease is active: a record of the table that has the key. The buffer holds the reply about it, with some addresses, and the desk reads the
--- fields of this record and these addresses.
+-- fields of this record and these addresses, each time exactly where it was not left out.
 pub record ReadsLease (c : Call) (d : ReadBack c) : Type 0 where
   pub kind : c .result .kind ≡ 13
   pub lease : Lease
@@ -84,7 +99,9 @@ pub record ReadsLease (c : Call) (d : ReadBack c) : Type 0 where
   pub active : ActiveAt c (hasKey (asking (c .query))) place
   pub stands : getD (c .table) place noLease ≡ lease
   pub written : c .after ≡ laid (activeReply (c .clock) (c .server) (c .query) lease addresses) (c .buffer)
-  pub reads : d .result ≡ answered (told (fromLease (c .clock) lease addresses))
+  pub reads : d .result ≡ answered (told (fromLease (c .clock) (c .query) lease addresses))
+  pub left : AbsentExactly (c .query) leaseTime (d .result .«has_left»)
+  pub since : AbsentExactly (c .query) lastTransactionTime (d .result .«has_since»)
 
 -- Whatever table, clock, server and query: where the box's call is not refused, neither is the desk's, and it reads what was written.
 abbrev pub RoundTrip : Type 0

@@ -10,7 +10,7 @@ use borrow.Author.Tests.{eq-eqb, ne-eqb, leb-true}
 use Rattle.octets.proofs.BoolLaws.{and-left, and-right}
 use Rattle.leasepacket.specs.Packet.{op, hlen, xid, isPacket}
 use Rattle.leasepacket.specs.Options.{valuesIn, hasOptions}
-use Rattle.leasepacket.specs.ReplyOptions.{Rule, inEvery, inActive, inKind}
+use Rattle.leasepacket.specs.ReplyOptions.{Lengths, inEvery, inActive, inKind}
 use Rattle.leasepacket.proofs.QueryLaws.{packet-long}
 use Rattle.deskreply.specs.Reply.{keeps, keepsAll, kindOf, isKind, isReply}
 use Rattle.deskreply.specs.Reading.{timeBy, addressesBy, tells, refusal, told, reading}
@@ -19,21 +19,21 @@ use Rattle.deskreply.specs.Stages.{hasFields, Short, timeOf, addressesOf
 use Rattle.deskreply.proofs.ReplyLaws.{keeps-both}
 
 -- ---- the rule of the addresses
-abbrev ruled : Rule
-ruled = record { code = 92; always = false; least = 8; most = 252; unit = 4 }
+abbrev ruled : Lengths
+ruled = record { least = 8; most = 252; unit = 4 }
 
 fifth : (a b c d e : Bool) → (a && (b && (c && (d && (e && true))))) ≡ true → e ≡ true
 fifth a b c d e h =
     and-left e true (and-right d (e && true) (and-right c (d && (e && true)) (and-right b (c && (d && (e && true))) (and-right a (b && (c && (d && (e && true)))) h))))
 
-last-rule : (every : Bool) (p : List ℕ) → (every && keepsAll inActive p) ≡ true → keeps ruled (valuesIn 92 p) ≡ true
+last-rule : (every : Bool) (p : List ℕ) → (every && keepsAll inActive p) ≡ true → keeps false ruled (valuesIn 92 p) ≡ true
 unfolding keepsAll
-last-rule every p e = fifth (kept 51 true 4 4 1) (kept 61 false 2 64 1) (kept 82 false 1 64 1) (kept 91 true 4 4 1) (keeps ruled (valuesIn 92 p)) (and-right every (keepsAll inActive p) e)
+last-rule every p e = fifth (kept 51 4 4 1) (kept 61 2 64 1) (kept 82 1 64 1) (kept 91 4 4 1) (keeps false ruled (valuesIn 92 p)) (and-right every (keepsAll inActive p) e)
   where
-    kept : ℕ → Bool → ℕ → ℕ → ℕ → Bool
-    kept code always least most unit = keeps (record { code = code; always = always; least = least; most = most; unit = unit }) (valuesIn code p)
+    kept : ℕ → ℕ → ℕ → ℕ → Bool
+    kept code least most unit = keeps false (record { least = least; most = most; unit = unit }) (valuesIn code p)
 
-ruled-short : (vs : List (List ℕ)) → keeps ruled vs ≡ true → Short vs
+ruled-short : (vs : List (List ℕ)) → keeps false ruled vs ≡ true → Short vs
 unfolding keeps
 ruled-short [] e = tt
 ruled-short (v ∷ []) e = leb-true (length v) 252 (and-right (leb 8 (length v)) (leb (length v) 252) (and-left (leb 8 (length v) && leb (length v) 252) (eqb (length v % 4) 0) e))

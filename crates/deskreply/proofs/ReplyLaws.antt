@@ -14,8 +14,9 @@ use Rattle.octets.specs.Write.{put, laid, Laid}
 use Rattle.octets.proofs.WriteLaws.{put-front, put-more, written}
 use Rattle.leasepacket.specs.Packet.{part, chaddr}
 use Rattle.leasepacket.specs.Options.{valuesIn}
-use Rattle.leasepacket.specs.ReplyOptions.{Rule}
+use Rattle.leasepacket.specs.ReplyOptions.{Rule, isAlways}
 use Rattle.deskreply.specs.Reply.{keeps, keepsAll}
+use Rattle.leasepacket.proofs.OccurrenceLaws.{slice-is}
 use Rattle.leasepacket.proofs.QueryLaws.{part-length}
 use Rattle.deskreply.specs.Reading.{timeBy, numbers, addressesBy}
 use Rattle.deskreply.specs.Stages.{Short, timeOf, addressesOf}
@@ -24,7 +25,7 @@ use Rattle.deskreply.specs.Stages.{Short, timeOf, addressesOf}
 pub keeps-both : (rs qs : List Rule) (p : List ℕ) → keepsAll (rs ++ qs) p ≡ (keepsAll rs p && keepsAll qs p)
 unfolding keepsAll
 keeps-both [] qs p = refl
-keeps-both (r ∷ rs) qs p = ap (λ (b : Bool). keeps r (valuesIn (r .code) p) && b) (keeps-both rs qs p) ∙ sym (and-assoc (keeps r (valuesIn (r .code) p)) (keepsAll rs p) (keepsAll qs p))
+keeps-both (r ∷ rs) qs p = ap (λ (b : Bool). keeps (isAlways (r .sent)) (r .lengths) (valuesIn (r .code) p) && b) (keeps-both rs qs p) ∙ sym (and-assoc (keeps (isAlways (r .sent)) (r .lengths) (valuesIn (r .code) p)) (keepsAll rs p) (keepsAll qs p))
   where
     and-assoc : (a b c : Bool) → ((a && b) && c) ≡ (a && (b && c))
     and-assoc true b c = refl
@@ -65,22 +66,19 @@ module _ (p : List ℕ) (at n : ℕ) where
   abbrev slice : List ℕ
   slice = take (at + n - at) (drop at p)
 
-  slice-is : slice ≡ part p at n
-  slice-is = let e : at + n - at ≡ n = omega arith in ap (λ (k : ℕ). take k (drop at p)) e
-
   module _ (vs : List (List ℕ)) (only : vs ≡ part p at n ∷ []) where
     pub time-once : (r : ℕ) → r ≡ numberAt 4 slice 0 → record { there = 1; span = span r } ≡ timeOf (timeBy vs)
-    time-once r e = ap (λ (k : ℕ). record { there = 1; span = span k }) (e ∙ ap (λ (v : List ℕ). numberAt 4 v 0) slice-is) ∙ sym (ap (λ (us : List (List ℕ)). timeOf (timeBy us)) only)
+    time-once r e = ap (λ (k : ℕ). record { there = 1; span = span k }) (e ∙ ap (λ (v : List ℕ). numberAt 4 v 0) (slice-is p at n)) ∙ sym (ap (λ (us : List (List ℕ)). timeOf (timeBy us)) only)
 
     pub addresses-once : at + n ≤ length p → (list : List ℕ) → list ≡ laid (numbers (length slice / 4) slice) (replicate 63 0) → record { count = n / 4; list = list } ≡ addressesOf (addressesBy vs)
     addresses-once h list e =
         let m : length (part p at n) ≡ n = part-length p at n h in
         let k : n / 4 ≡ length (numbers (length (part p at n) / 4) (part p at n)) = ap (λ (j : ℕ). j / 4) (sym m) ∙ sym (numbers-length (length (part p at n) / 4) (part p at n)) in
-        let l : list ≡ laid (numbers (length (part p at n) / 4) (part p at n)) (replicate 63 0) = e ∙ ap (λ (v : List ℕ). laid (numbers (length v / 4) v) (replicate 63 0)) slice-is in
+        let l : list ≡ laid (numbers (length (part p at n) / 4) (part p at n)) (replicate 63 0) = e ∙ ap (λ (v : List ℕ). laid (numbers (length v / 4) v) (replicate 63 0)) (slice-is p at n) in
         rw (k, l) (sym (ap (λ (us : List (List ℕ)). addressesOf (addressesBy us)) only))
 
     pub only-short : Short vs → length slice ≤ 252
-    only-short s = let h : length (part p at n) ≤ 252 = rw only at s in rw slice-is h
+    only-short s = let h : length (part p at n) ≤ 252 = rw only at s in rw (slice-is p at n) h
 
     pub only-few : at + n ≤ length p → Short vs → n ≤ 252
     only-few h s = let k : length (part p at n) ≤ 252 = rw only at s in omega (arith, k, part-length p at n h)

@@ -28,7 +28,7 @@ fn does_fit(n: usize, least: usize, most: usize, unit: usize) -> bool
 // Whether an option keeps the rule of servers.
 fn does_keep(p: &[u8], code: u8, always: bool, least: usize, most: usize, unit: usize) -> bool
     requires { ⌜ 0 < unit ⌝ }
-    ensures { λ r. ⌜ r ≡ keeps (record { code = code; always = always; least = least; most = most; unit = unit }) (valuesIn code (now (p .entry))) ⌝ }
+    ensures { λ r. ⌜ r ≡ keeps always (record { least = least; most = most; unit = unit }) (valuesIn code (now (p .entry))) ⌝ }
 {
     match options::find(p, code) {
         Occurrence::Faulty => !always,
@@ -49,11 +49,11 @@ fn has_every(p: &[u8]) -> bool
 }
 
 // Whether the options that tell of an active lease keep theirs: seconds left, client id, relay
-// information, seconds since the last transaction, addresses.
+// information, seconds since the last transaction, addresses. A reply may lack any of them.
 fn has_active(p: &[u8]) -> bool
     ensures { λ r. ⌜ r ≡ keepsAll inActive (now (p .entry)) ⌝ }
 {
-    if !does_keep(p, layout::LEASE_TIME, true, 4, 4, 1) {
+    if !does_keep(p, layout::LEASE_TIME, false, 4, 4, 1) {
         return false;
     }
     if !does_keep(p, layout::CLIENT_ID, false, 2, 64, 1) {
@@ -62,7 +62,7 @@ fn has_active(p: &[u8]) -> bool
     if !does_keep(p, layout::RELAY_INFORMATION, false, 1, 64, 1) {
         return false;
     }
-    if !does_keep(p, layout::LAST_TRANSACTION_TIME, true, 4, 4, 1) {
+    if !does_keep(p, layout::LAST_TRANSACTION_TIME, false, 4, 4, 1) {
         return false;
     }
     does_keep(p, layout::ASSOCIATED_IP, false, 8, 252, 4)

@@ -11,9 +11,11 @@ use Rattle.lease.specs.Lease.{allZero, hardwareFits, lengthsFit, momentsFit, we
 use Rattle.leasepacket.specs.Packet.{isPacket}
 use Rattle.leasepacket.specs.Options.{options, values, hasOptions}
 use Rattle.leasepacket.specs.Query.{anySet, hasHardwareKey, keys, keyOf, hasBadLength, refusals, firstOf, asking}
-use Rattle.leasepacket.specs.Layout.{fixedFields}
+use Rattle.leasepacket.specs.Layout.{fixedFields, encoded}
+use Rattle.leasepacket.specs.Requested.{isRequested}
+use Rattle.leasepacket.specs.ReplyOptions.{sentBy}
 use Rattle.leasetable.specs.Table.{tableFits, risesFrom, those, placed, ranked}
-use Rattle.leasereply.specs.Reply.{fixed, ofLease, flat, activeReply}
+use Rattle.leasereply.specs.Reply.{fixed, optionsOf, ofServer, ofLease, flat, activeReply}
 use Rattle.leasequery.specs.Answer.{written, hasKey, byClientOf, answerBy, askedOf, answer}
 
 abbrev leaseAt : ℕ → Lease
@@ -42,5 +44,5 @@ asks =
     (1 ∷ 0 ∷ 0 ∷ 0 ∷ 1 ∷ 2 ∷ 3 ∷ 4 ∷ replicate 16 0) ++ (10 ∷ 0 ∷ 0 ∷ 1 ∷ []) ++ replicate 208 0 ++ (99 ∷ 130 ∷ 83 ∷ 99 ∷ 53 ∷ 1 ∷ 10 ∷ 61 ∷ 64 ∷ replicate 64 9) ++ (255 ∷ [])
 
 pub reaches : length (written (answer (moment 10) (leasesFrom 63 167772160) 167772161 asks 648)) ≡ 648
-unfolding leasesFrom answer askedOf answerBy hasKey byClientOf asking options values anySet hasHardwareKey keys keyOf hasBadLength refusals firstOf isPacket hasOptions numberAt bigEndian sameOctets tableFits risesFrom those placed ranked allZero hardwareFits lengthsFit momentsFit wellFormed activeAt hasClientId ranksBefore isExpiry isAhead secondsLeft secondsSince activeReply fixedFields fixed ofLease flat
+unfolding leasesFrom answer askedOf answerBy hasKey byClientOf asking options values anySet hasHardwareKey keys keyOf hasBadLength refusals firstOf isPacket hasOptions numberAt bigEndian sameOctets tableFits risesFrom those placed ranked allZero hardwareFits lengthsFit momentsFit wellFormed activeAt hasClientId ranksBefore isExpiry isAhead secondsLeft secondsSince activeReply fixedFields fixed optionsOf isRequested sentBy encoded ofServer ofLease flat
 reaches = refl

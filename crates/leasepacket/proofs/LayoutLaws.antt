@@ -13,7 +13,7 @@ use Rattle.octets.specs.Number.{numberAt}
 use Rattle.octets.proofs.NumberLaws.{number-append}
 use Rattle.leasepacket.specs.Packet.{part, optionArea, cookie, isPacket}
 use Rattle.leasepacket.specs.Packet as packet
-use Rattle.leasepacket.specs.Layout.{fixedFields, option, optional}
+use Rattle.leasepacket.specs.Layout.{fixedFields, option}
 use Rattle.leasepacket.specs.Options.{followed, options}
 use Rattle.leasepacket.specs.Grammar.{Code}
 use Rattle.leasepacket.proofs.Equations.{equations}
@@ -243,13 +243,6 @@ module _ (op htype hlen : ℕ) (xid flags ciaddr giaddr chaddr : List ℕ) (s : 
 module _ (code : ℕ) (k : Code code) (rest : List ℕ) where
   pub read-option : (value : List ℕ) → options 0 (option code value ++ rest) ≡ followed (record { code = code; octets = value }) (options 0 rest)
   read-option value = equations .option code value rest k
-
-  -- one that may be left out
-  pub read-optional : (x : ℕ) (xs : List ℕ) → options 0 (optional code (x ∷ xs) ++ rest) ≡ followed (record { code = code; octets = x ∷ xs }) (options 0 rest)
-  read-optional x xs = read-option (x ∷ xs)
-
-  pub read-left-out : options 0 (optional code [] ++ rest) ≡ options 0 rest
-  read-left-out = refl
 
 pub read-end : (rest : List ℕ) → options 0 (255 ∷ rest) ≡ some []
 read-end rest = equations .end rest

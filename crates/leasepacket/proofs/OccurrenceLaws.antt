@@ -1,5 +1,5 @@
 -- What the occurrence of an option says of the values in a packet, and that the place of a value is where it stands. Assumes nothing.
-use Prim.Native.Nat.{ℕ, zero, suc, _+_, _≤_, _<_}
+use Prim.Native.Nat.{ℕ, zero, suc, _+_, _-_, _≤_, _<_}
 use mathlib.Core.Path.{_≡_, refl, sym, ap, _∙_, subst}
 use mathlib.Core.List.{List, [], _∷_, headD}
 use mathlib.Core.Option.{Option, none, some}
@@ -148,6 +148,10 @@ module _ (p : List ℕ) where
 
   pub tells-once : (kind : Place) (at n : ℕ) → ReadAs 53 p kind → Says 61 (Once at n) → Tells p (walk.Found (record { kind = kind; id = place.At at n }))
   tells-once kind at n k s = let i = read-once 61 at n s in (has-both (s .0) kind (place.At at n) k i, k, i, s .3)
+
+-- ---- a value that stands at a place, by the octets from there to its end
+pub slice-is : (p : List ℕ) (at n : ℕ) → take (at + n - at) (drop at p) ≡ part p at n
+slice-is p at n = let e : at + n - at ≡ n = omega arith in ap (λ (k : ℕ). take k (drop at p)) e
 
 -- ---- the values of an option, by its occurrence
 module _ (p : List ℕ) (code : ℕ) where

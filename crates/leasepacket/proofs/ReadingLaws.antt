@@ -14,6 +14,7 @@ use Rattle.leasepacket.specs.declared.options.Place.the-variants.{Absent
 use Rattle.leasepacket.specs.declared.query.Query.the-variants.{ByAddress, ByHardware, ByClientId, Refused}
 use Rattle.leasepacket.specs.Packet.{part, op, htype, hlen, ciaddr, giaddr, chaddr, isPacket}
 use Rattle.leasepacket.specs.Options.{valuesIn, hasOptions}
+use Rattle.leasepacket.specs.Requested.{listFits}
 use Rattle.leasepacket.specs.Query.{Asked, refused, byAddress, byHardware, byClientId, hasHardwareKey, keys, isLeaseQuery, idOr, keyOf, hasBadLength, refusals, firstOf, asking}
 use Rattle.leasepacket.specs.Occurrence.{before, placeOf}
 use Rattle.leasepacket.specs.Reading.{idPlace, readAt, reading, asked}
@@ -38,11 +39,16 @@ module _ (p : List ℕ) where
 
   pub refuses-3 : Past 2 p → hasOptions p ≡ false → Refused 3 ≡ reading p
   unfolding refusals
-  refuses-3 s e = applies p 3 _ _ s (ap not e)
+  refuses-3 s e = applies p 3 _ _ s (rw e)
 
-  pub past-3 : Past 2 p → hasOptions p ≡ true → Past 3 p
-  unfolding refusals
-  past-3 s e = passes p 3 _ _ s (ap not e)
+  module _ (s : Past 2 p) (e : hasOptions p ≡ true) where
+    pub refuses-list : listFits (valuesIn 55 p) ≡ false → Refused 3 ≡ reading p
+    unfolding refusals
+    refuses-list f = applies p 3 _ _ s (rw (e, f))
+
+    pub past-3 : listFits (valuesIn 55 p) ≡ true → Past 3 p
+    unfolding refusals
+    past-3 f = passes p 3 _ _ s (rw (e, f))
 
 -- ---- the message type, and the giaddr
 module _ (p : List ℕ) (id : Place) where

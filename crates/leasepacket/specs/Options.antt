@@ -44,7 +44,8 @@ valuesOf code (some os) = values code os
 abbrev pub valuesIn : ℕ → List ℕ → List (List ℕ)
 valuesIn code p = valuesOf code (options 0 (optionArea p))
 
--- The options of a packet can be read, with the message type and the client id at most once each. If not, that is refusal 3.
+-- The options of a packet can be read, with the message type and the client id at most once each. If not, that is refusal 3, of a query and
+-- of a reply.
 abbrev pub atMostOnce : Option (List Opt) → Bool
 atMostOnce none = false
 atMostOnce (some os) = leb (length (values messageType os)) 1 && leb (length (values clientId os)) 1

@@ -47,6 +47,9 @@ messageType = 53
 abbrev pub clientId : ℕ
 clientId = 61
 
+abbrev pub parameterRequestList : ℕ
+parameterRequestList = 55
+
 abbrev pub leaseTime : ℕ
 leaseTime = 51
 

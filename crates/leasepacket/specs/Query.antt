@@ -5,8 +5,9 @@ use mathlib.Core.List.{List, [], _∷_}
 use lib.Dec.{ltb, eqb}
 use lib.ListN.{length}
 use Rattle.octets.specs.Compare.{sameOctets}
-use Rattle.leasepacket.specs.Packet.{part, op, htype, hlen, ciaddr, giaddr, chaddr, messageType, clientId, leaseQuery, isPacket}
+use Rattle.leasepacket.specs.Packet.{part, op, htype, hlen, ciaddr, giaddr, chaddr, messageType, clientId, parameterRequestList, leaseQuery, isPacket}
 use Rattle.leasepacket.specs.Options.{valuesIn, hasOptions}
+use Rattle.leasepacket.specs.Requested.{listFits}
 
 -- What a query asks for: a refusal, or a key. A hardware key has a type, a length and the 16 octets of chaddr.
 pub data Asked : Type 0 where
@@ -49,12 +50,13 @@ isShort (id ∷ _) = ltb (length id) 2
 unfoldable pub hasBadLength : List ℕ → Bool
 hasBadLength p = (hasHardwareKey p && (eqb (hlen p) 0 || ltb 16 (hlen p))) || isShort (valuesIn clientId p)
 
--- Each refusal of a packet with whether it applies: 5 is for a giaddr of zero, 6 for other than one key.
+-- Each refusal of a packet with whether it applies: 3 is for the options of any packet and for a query's list (document 02, e)), 5 for a giaddr
+-- of zero, 6 for other than one key.
 unfoldable pub refusals : List ℕ → List (ℕ × Bool)
 refusals p =
     (1, not (isPacket p))
     ∷ (2, not (eqb (op p) 1))
-    ∷ (3, not (hasOptions p))
+    ∷ (3, not (hasOptions p && listFits (valuesIn parameterRequestList p)))
     ∷ (4, not (isLeaseQuery (valuesIn messageType p)))
     ∷ (5, eqb (giaddr p) 0)
     ∷ (6, not (eqb (keys p) 1))

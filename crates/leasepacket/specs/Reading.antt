@@ -1,11 +1,14 @@
--- What `query::read` answers: what a packet asks for, with a client id told by its place.
+-- What `query::read` answers: what a packet asks for, with a client id told by its place; and what `requested::read` answers.
 use Prim.Native.Nat.{ℕ}
 use mathlib.Core.List.{List}
+use mathlib.Core.Option.{Option}
 use lib.ListN.{length}
 use Rattle.leasepacket.specs.declared.query.Query.{Query}
 use Rattle.leasepacket.specs.declared.query.Query.the-variants.{ByAddress, ByHardware, ByClientId, Refused}
-use Rattle.leasepacket.specs.Packet.{part, chaddr, clientId}
+use Rattle.leasepacket.specs.declared.requested.Requested.{Requested}
+use Rattle.leasepacket.specs.Packet.{part, chaddr, clientId, leaseTime, relayInformation, lastTransactionTime}
 use Rattle.leasepacket.specs.Occurrence.{placeOf}
+use Rattle.leasepacket.specs.Requested.{requestedBy}
 use Rattle.leasepacket.specs.Query.{Asked, refused, byAddress, byHardware, byClientId, asking}
 
 -- Where the value of the client id stands in a packet.
@@ -28,3 +31,13 @@ asked p (Refused n) = refused n
 asked p (ByAddress a) = byAddress a
 asked p (ByHardware htype hlen) = byHardware htype hlen (chaddr p)
 asked p (ByClientId at n) = byClientId (part p at n)
+
+-- Which of the options that go out only if they are asked for a packet asks for, by its list.
+abbrev pub requestedIn : Option (List ℕ) → Requested
+requestedIn list =
+    record {
+      «seconds_left» = requestedBy leaseTime list;
+      «client_id» = requestedBy clientId list;
+      «relay_information» = requestedBy relayInformation list;
+      «seconds_since» = requestedBy lastTransactionTime list;
+    }

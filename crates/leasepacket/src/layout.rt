@@ -56,6 +56,9 @@ pub const MESSAGE_TYPE: u8 = 53;
 // The server's address.
 pub const SERVER_ID: u8 = 54;
 
+// The parameter request list: the codes of the options that a query asks for.
+pub const PARAMETER_REQUEST_LIST: u8 = 55;
+
 // The client id.
 pub const CLIENT_ID: u8 = 61;
 

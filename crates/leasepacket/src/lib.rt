@@ -2,3 +2,4 @@
 pub mod layout;
 pub mod options;
 pub mod query;
+pub mod requested;

@@ -3,6 +3,7 @@ use crate::layout;
 use crate::options;
 use crate::options::Place;
 use crate::options::Walk;
+use crate::requested;
 use octets::number;
 ghost use mathlib.Core.Path.{_≡_};
 ghost use mathlib.Core.Bool.{true};
@@ -128,7 +129,7 @@ fn of_type(p: &[u8], kind: Place, id: Place) -> Query
     }
 }
 
-// The options must be in order.
+// The options must be in order, and so must the list of those that are asked for.
 fn by_options(p: &[u8]) -> Query
     requires { ⌜ (240 ≤ length (now p)) × Past 2 (now p) ⌝ }
     ensures { λ r. ⌜ r ≡ reading (now (p .entry)) ⌝ }
@@ -136,6 +137,9 @@ fn by_options(p: &[u8]) -> Query
     match options::read_all(p) {
         Walk::Faulty => Query::Refused(3),
         Walk::Found(w) => {
+            if !requested::does_list_fit(p) {
+                return Query::Refused(3);
+            }
             let kind = w.kind;
             let id = w.id;
             of_type(p, kind, id)

@@ -7,7 +7,7 @@ use native.Mathlib.Omega.{arith}
 use native.Mathlib.Nat.{zero-add, mod-add-div, add-mul-mod-self-left, add-mul-div-left}
 use native.Mathlib.Numerals.{add-one}
 use lib.ListN.{length, take, drop, getD, length-append, length-take, length-map}
-use lib.Dec.{ltb, lit<}
+use lib.Dec.{ltb, eqb, lit<}
 use borrow.Author.Tests.{lt-ltb, le-ltb, ltb-false}
 use lib.Seq.{take-suc, length-take-le}
 use Rattle.octets.proofs.BoolLaws.{or-right}
@@ -20,19 +20,69 @@ use Rattle.octets.proofs.WriteLaws.{nothing, more, put-front}
 use Rattle.lease.specs.declared.Lease.{Lease}
 use Rattle.lease.specs.declared.Rank.{Rank}
 use Rattle.leasepacket.specs.Packet.{part}
-use Rattle.leasepacket.specs.Layout.{fixedFields, option, optional}
-use Rattle.leasereply.specs.Reply.{fixed, ofLease, flat, otherReply, activeReply, addressesOf, listed, Wrote}
+use Rattle.leasepacket.specs.Options.{Opt}
+use Rattle.leasepacket.specs.declared.requested.Requested.{Requested}
+use Rattle.leasepacket.specs.Layout.{fixedFields, option, encoded}
+use Rattle.leasepacket.specs.Requested.{requestList, isRequested}
+use Rattle.leasepacket.specs.ReplyOptions.{inActive, inKind, held, sentBy}
+use Rattle.leasepacket.specs.Reading.{requestedIn}
+use Rattle.leasepacket.proofs.SentLaws.{encoded-both, encoded-held, held-short, sent-more, sent-none, nothing-sent}
+use Rattle.leasereply.specs.Reply.{fixed, optionsOf, ofServer, ofLease, flat, otherReply, activeReply, addressesOf, listed, asked, aboutLease, Wrote}
 
 -- ---- options that may be left out
-pub some : (code : ℕ) (v : List ℕ) → 0 < length v → option code v ≡ optional code v
-some code [] h = absurd (omega arith)
-some code (x ∷ xs) h = refl
+pub none-encoded : {b : List ℕ} {at : ℕ} → WroteIf b at (encoded []) b at
+unfolding encoded
+none-encoded = nothing
 
-pub optional-none : {b : List ℕ} {at : ℕ} (v : List ℕ) (n code : ℕ) → n ≡ 0 → WroteIf b at (optional code (take n v)) b at
-optional-none v n code e = rw e nothing
+pub some-encoded : {b v l : List ℕ} {at n k code : ℕ} → length v ≡ n → 0 < n → WroteIf b at (code ∷ n ∷ v) l k → WroteIf b at (encoded (held code v)) l k
+some-encoded {b} {v} {l} {at} {n} {k} {code} e h w = rw (encoded-held code v (omega arith), e) w
 
-pub optional-some : {b v l : List ℕ} {at n k code : ℕ} → length v ≡ n → 0 < n → WroteIf b at (code ∷ n ∷ v) l k → WroteIf b at (optional code v) l k
-optional-some {b} {v} {l} {at} {n} {k} {code} e h w = rw (← some code v (omega arith), e) w
+pub asked-not : {b : List ℕ} {at : ℕ} (is : Bool) (code : ℕ) (v : List ℕ) → is ≡ false → WroteIf b at (asked is code v) b at
+asked-not is code v e = rw e none-encoded
+
+pub asked-none : {b : List ℕ} {at : ℕ} (is : Bool) (code n : ℕ) (v : List ℕ) → is ≡ true → n ≡ 0 → WroteIf b at (asked is code (take n v)) b at
+asked-none is code n v e z = rw (e, z) none-encoded
+
+pub asked-number : {b l : List ℕ} {at k : ℕ} (is : Bool) (code v : ℕ) → is ≡ true → WroteIf b at (option code (bigEndian 4 v)) l k → WroteIf b at (asked is code (bigEndian 4 v)) l k
+asked-number is code v e w =
+    let n = length-big-endian 4 v in
+    rw e (some-encoded n (omega arith) (rw n at w))
+
+-- ---- the options of a reply behind its fixed fields, one by one
+regrouped : (front a b c d e f g end : List ℕ) → front ++ ((a ++ (b ++ (c ++ (d ++ (e ++ (f ++ (g ++ []))))))) ++ end) ≡ front ++ a ++ b ++ (c ++ d ++ e ++ f) ++ g ++ end
+regrouped front a b c d e f g end = simp (append-assoc, append-nil) refl
+
+module _ (q front : List ℕ) (server : ℕ) where
+  server-held : encoded (held 54 (bigEndian 4 server)) ≡ option 54 (bigEndian 4 server)
+  server-held = let n = length-big-endian 4 server in encoded-held 54 (bigEndian 4 server) (omega (arith, n))
+
+  -- no other code has anything to say
+  no-more : (kind : ℕ) (b : Bool) → sentBy q (ofServer kind server) (cond b inActive []) ≡ []
+  unfolding ofServer
+  no-more kind false = nothing-sent q (ofServer kind server) [] tt
+  no-more kind true = nothing-sent q (ofServer kind server) inActive (refl, (refl, (refl, (refl, (refl, tt)))))
+
+  other-options : (kind : ℕ) → encoded (sentBy q (ofServer kind server) (inKind kind)) ≡ option 53 (kind ∷ []) ++ option 54 (bigEndian 4 server)
+  unfolding sentBy ofServer encoded
+  other-options kind =
+      ap (λ (os : List Opt). option 53 (kind ∷ []) ++ encoded os)
+      (ap (λ (os : List Opt). held 54 (bigEndian 4 server) ++ os) (no-more kind (eqb kind 13)) ∙ append-nil (held 54 (bigEndian 4 server)))
+      ∙ ap (λ (l : List ℕ). option 53 (kind ∷ []) ++ l) server-held
+
+  pub other-parts : (kind : ℕ) → front ++ optionsOf kind q (ofServer kind server) ≡ front ++ option 53 (kind ∷ []) ++ option 54 (bigEndian 4 server) ++ (255 ∷ [])
+  unfolding optionsOf
+  other-parts kind = rw (other-options kind) (simp append-assoc refl)
+
+  pub active-parts : (clock : Moment) (x : Lease) (addresses : List ℕ) → front ++ optionsOf 13 q (ofLease clock server x addresses) ≡ front ++ option 53 (13 ∷ []) ++ option 54 (bigEndian 4 server) ++ aboutLease clock x (requestedIn (requestList q)) ++ encoded (held 92 (flat addresses)) ++ (255 ∷ [])
+  unfolding optionsOf ofLease ofServer aboutLease isRequested encoded
+  active-parts clock x addresses =
+      let said = ofLease clock server x addresses in
+      let about : encoded (sentBy q said inActive) ≡ _ = sent-more q said _ _ _ (sent-more q said _ _ _ (sent-more q said _ _ _ (sent-more q said _ _ _ (sent-more q said _ _ _ (sent-none q said))))) in
+      ap (λ (l : List ℕ). front ++ (l ++ (255 ∷ []))) (sent-more q said _ _ _ (sent-more q said _ inActive _ about))
+      ∙ regrouped front (option 53 (13 ∷ [])) (encoded (held 54 (bigEndian 4 server)))
+      (asked (isRequested q 51) 51 (said 51)) (asked (isRequested q 61) 61 (said 61)) (asked (isRequested q 82) 82 (said 82)) (asked (isRequested q 91) 91 (said 91))
+      (encoded (held 92 (flat addresses))) (255 ∷ [])
+      ∙ ap (λ (l : List ℕ). front ++ option 53 (13 ∷ []) ++ l ++ aboutLease clock x (requestedIn (requestList q)) ++ encoded (held 92 (flat addresses)) ++ (255 ∷ [])) server-held
 
 -- ---- addresses
 flat-behind : (xs : List ℕ) (x : ℕ) → flat (xs ++ (x ∷ [])) ≡ flat xs ++ bigEndian 4 x
@@ -76,20 +126,20 @@ unfolding otherReply
 other-short kind server q =
     let f = fixed-short q (getD q 1 0) (getD q 2 0) (part q 12 4) (part q 28 16) (part-short q 12 4) (part-short q 28 16) in
     let n = length-big-endian 4 server in
-    simp length-append (omega (arith, f, n))
+    rw (other-parts q (fixed q (getD q 1 0) (getD q 2 0) (part q 12 4) (part q 28 16)) server kind) (simp length-append (omega (arith, f, n)))
 
-optional-short : (code : ℕ) (v : List ℕ) → length (optional code v) ≤ 2 + length v
-optional-short code [] = omega arith
-optional-short code (x ∷ xs) = omega arith
-
-lease-short : (clock : Moment) (x : Lease) → length (take (x .idlen) (x .id)) ≤ 64 → length (take (x .relaylen) (x .relay)) ≤ 64 → length (ofLease clock x) ≤ 144
-unfolding ofLease
-lease-short clock x p q =
-    let a = optional-short 61 (take (x .idlen) (x .id)) in
-    let b = optional-short 82 (take (x .relaylen) (x .relay)) in
+lease-short : (clock : Moment) (x : Lease) (r : Requested) → length (take (x .idlen) (x .id)) ≤ 64 → length (take (x .relaylen) (x .relay)) ≤ 64 → length (aboutLease clock x r) ≤ 144
+unfolding aboutLease
+lease-short clock x r p q =
+    let left = bigEndian 4 (secondsLeft (x .expiry) clock .0) in
+    let since = bigEndian 4 (secondsSince (x .last) clock .0) in
+    let a = held-short 51 left (r .«seconds_left») in
+    let b = held-short 61 (take (x .idlen) (x .id)) (r .«client_id») in
+    let c = held-short 82 (take (x .relaylen) (x .relay)) (r .«relay_information») in
+    let d = held-short 91 since (r .«seconds_since») in
     let m = length-big-endian 4 (secondsLeft (x .expiry) clock .0) in
     let n = length-big-endian 4 (secondsSince (x .last) clock .0) in
-    simp length-append (omega (arith, a, b, m, n))
+    simp length-append (omega (arith, a, b, c, d, m, n))
 
 pub active-short : (clock : Moment) (server : ℕ) (q : List ℕ) (x : Lease) (addresses : List ℕ) → length (take (x .idlen) (x .id)) ≤ 64 → length (take (x .relaylen) (x .relay)) ≤ 64 → length addresses ≤ 63 → length (activeReply clock server q x addresses) ≤ 648
 unfolding activeReply
@@ -98,10 +148,10 @@ active-short clock server q x addresses p r h =
     let k : length (take 16 (x .chaddr)) ≤ 16 = omega (arith, length-take 16 (x .chaddr)) in
     let f = fixed-short q (x .htype) (x .hlen) (bigEndian 4 (x .address)) (take 16 (x .chaddr)) c k in
     let n = length-big-endian 4 server in
-    let l = lease-short clock x p r in
-    let o = optional-short 92 (flat addresses) in
+    let l = lease-short clock x (requestedIn (requestList q)) p r in
+    let o = held-short 92 (flat addresses) true in
     let e = flat-length addresses in
-    simp length-append (omega (arith, f, n, l, o, e))
+    rw (active-parts q (fixed q (x .htype) (x .hlen) (bigEndian 4 (x .address)) (take 16 (x .chaddr))) server clock x addresses) (simp length-append (omega (arith, f, n, l, o, e)))
 
 -- ---- what a writer did, by whether query and buffer are long enough
 module _ (q b : List ℕ) where

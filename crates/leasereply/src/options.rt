@@ -3,6 +3,7 @@ use clock::Moment;
 use lease::Lease;
 use lease::Rank;
 use leasepacket::layout;
+use leasepacket::requested::Requested;
 use octets::write;
 ghost use mathlib.Core.Path.{_≡_};
 ghost use mathlib.Core.List.{[], _∷_};
@@ -10,8 +11,9 @@ ghost use lib.ListN.{take};
 ghost use Prim.Native.Nat.{_≤_, min};
 ghost use Rattle.octets.specs.Number.{bigEndian};
 ghost use Rattle.octets.specs.Write.{WroteIf};
-ghost use Rattle.leasepacket.specs.Layout.{option, optional};
-ghost use Rattle.leasereply.specs.Reply.{addressesOf, listed, flat, ofLease};
+ghost use Rattle.leasepacket.specs.Layout.{option, encoded};
+ghost use Rattle.leasepacket.specs.ReplyOptions.{held};
+ghost use Rattle.leasereply.specs.Reply.{flat, addressesOf, listed, asked, aboutLease};
 
 // The message type (53).
 pub(crate) fn put_kind(buf: &mut [u8], at: usize, kind: u8) -> usize
@@ -38,10 +40,23 @@ fn at_most_64(n: u8) -> usize
     if n < 64 { n as usize } else { 64 }
 }
 
-// The first n octets of an array as an option; nothing where there are none.
-fn put_optional(buf: &mut [u8], at: usize, code: u8, v: [u8; 64], n: u8) -> usize
-    ensures { λ r. ⌜ WroteIf (now (buf .entry)) at (optional code (take n v)) (now (buf .exit)) r ⌝ }
+// A time of four octets, if it is asked for.
+fn put_time(buf: &mut [u8], at: usize, wanted: bool, code: u8, v: u32) -> usize
+    ensures { λ r. ⌜ WroteIf (now (buf .entry)) at (asked wanted code (bigEndian 4 v)) (now (buf .exit)) r ⌝ }
 {
+    if !wanted {
+        return at;
+    }
+    put_number(buf, at, code, v)
+}
+
+// The first n octets of an array, if they are asked for and there are any.
+fn put_held(buf: &mut [u8], at: usize, wanted: bool, code: u8, v: [u8; 64], n: u8) -> usize
+    ensures { λ r. ⌜ WroteIf (now (buf .entry)) at (asked wanted code (take n v)) (now (buf .exit)) r ⌝ }
+{
+    if !wanted {
+        return at;
+    }
     if n == 0 {
         return at;
     }
@@ -52,20 +67,33 @@ fn put_optional(buf: &mut [u8], at: usize, code: u8, v: [u8; 64], n: u8) -> usiz
 }
 
 // The options that tell of a lease: seconds left (51), client id (61), relay information (82), seconds
-// since the last transaction (91).
-pub(crate) fn put_lease(buf: &mut [u8], at: usize, clock: Moment, x: Lease) -> usize
-    ensures { λ r. ⌜ WroteIf (now (buf .entry)) at (ofLease clock x) (now (buf .exit)) r ⌝ }
+// since the last transaction (91), each if it is asked for.
+pub(crate) fn put_lease(buf: &mut [u8], at: usize, clock: Moment, x: Lease, r: Requested) -> usize
+    ensures { λ end. ⌜ WroteIf (now (buf .entry)) at (aboutLease clock x r) (now (buf .exit)) end ⌝ }
 {
     let expiry = x.expiry;
     let left = clock::seconds_left(expiry, clock);
-    let a = put_number(buf, at, layout::LEASE_TIME, left.0);
+    let a = put_time(buf, at, r.seconds_left, layout::LEASE_TIME, left.0);
     let id = x.id;
-    let b = put_optional(buf, a, layout::CLIENT_ID, id, x.idlen);
+    let b = put_held(buf, a, r.client_id, layout::CLIENT_ID, id, x.idlen);
     let relay = x.relay;
-    let c = put_optional(buf, b, layout::RELAY_INFORMATION, relay, x.relaylen);
+    let c = put_held(
+        buf,
+        b,
+        r.relay_information,
+        layout::RELAY_INFORMATION,
+        relay,
+        x.relaylen,
+    );
     let last = x.last;
     let since = clock::seconds_since(last, clock);
-    put_number(buf, c, layout::LAST_TRANSACTION_TIME, since.0)
+    put_time(
+        buf,
+        c,
+        r.seconds_since,
+        layout::LAST_TRANSACTION_TIME,
+        since.0,
+    )
 }
 
 // The lower four octets of a number, which are all of an address.
@@ -92,7 +120,7 @@ fn put_addresses(buf: &mut [u8], at: usize, ranks: [Rank; 63], n: usize) -> usiz
 
 // The addresses of a client (92), where there are two or more.
 pub(crate) fn put_listed(buf: &mut [u8], at: usize, ranks: [Rank; 63], n: usize) -> usize
-    ensures { λ r. ⌜ WroteIf (now (buf .entry)) at (optional 92 (flat (listed n ranks))) (now (buf .exit)) r ⌝ }
+    ensures { λ r. ⌜ WroteIf (now (buf .entry)) at (encoded (held 92 (flat (listed n ranks)))) (now (buf .exit)) r ⌝ }
 {
     if n < 2 {
         return at;

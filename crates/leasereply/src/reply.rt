@@ -5,6 +5,7 @@ use clock::Moment;
 use lease::Lease;
 use lease::Rank;
 use leasepacket::layout;
+use leasepacket::requested;
 use octets::number;
 use octets::write;
 ghost use lib.ListN.{length, take};
@@ -60,7 +61,7 @@ fn put_active(
     let a = put_record(buf, query, x);
     let b = options::put_kind(buf, a, layout::DHCPLEASEACTIVE);
     let c = options::put_number(buf, b, layout::SERVER_ID, server);
-    let d = options::put_lease(buf, c, clock, x);
+    let d = options::put_lease(buf, c, clock, x, requested::read(query));
     let e = options::put_listed(buf, d, ranks, n);
     write::put_octet(buf, e, layout::END)
 }

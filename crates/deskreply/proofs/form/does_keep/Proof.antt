@@ -26,21 +26,21 @@ enum-told-3 c = search needs
 
 returns : tie.Need-returns
 unfolding keeps
-returns c = sym (ap (keeps _) (none-faulty (c .before .before .before .before .args .p .now) (c .before .before .before .before .args .code) (sym (c .enum-told .given .1) ∙ c .before .before .find .ensures)))
+returns c = sym (ap (keeps _ _) (none-faulty (c .before .before .before .before .args .p .now) (c .before .before .before .before .args .code) (sym (c .enum-told .given .1) ∙ c .before .before .find .ensures)))
 
 returns-2 : tie.Need-returns-2
 unfolding keeps
-returns-2 c = sym (ap (keeps _) (none-absent (c .before .before .before .before .args .p .now) (c .before .before .before .before .args .code) (sym (c .enum-told2 .given .1) ∙ c .before .before .find .ensures)))
+returns-2 c = sym (ap (keeps _ _) (none-absent (c .before .before .before .before .args .p .now) (c .before .before .before .before .args .code) (sym (c .enum-told2 .given .1) ∙ c .before .before .find .ensures)))
 
 returns-3 : tie.Need-returns-3
 unfolding keeps
 returns-3 c = let t = one (c .before .before .before .before .before .before .args .p .now) (c .before .before .before .before .before .before .args .code) _ _ (sym (c .before .before .n .given .1) ∙ c .before .before .before .before .find .ensures) in
-    c .does-fit .ensures ∙ sym (ap (keeps _) (t .0) ∙ rw (part-length _ _ _ (t .1)))
+    c .does-fit .ensures ∙ sym (ap (keeps _ _) (t .0) ∙ rw (part-length _ _ _ (t .1)))
 
 returns-4 : tie.Need-returns-4
 unfolding keeps
 returns-4 c = let s = c .before .before .before .before .args in
-    sym (ap (keeps (record { code = s .code; always = s .always; least = s .least; most = s .most; unit = s .unit })) ((more (c .before .before .before .before .args .p .now) (c .before .before .before .before .args .code) (sym (c .enum-told3 .given .1) ∙ c .before .before .find .ensures)) .3))
+    sym (ap (keeps (s .always) (record { least = s .least; most = s .most; unit = s .unit })) ((more (c .before .before .before .before .args .p .now) (c .before .before .before .before .args .code) (sym (c .enum-told3 .given .1) ∙ c .before .before .find .ensures)) .3))
 
 pub does-keep-spec : {M : Type 1} → statement M
 does-keep-spec =

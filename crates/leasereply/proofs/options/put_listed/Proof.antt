@@ -4,17 +4,18 @@ use native.Mathlib.Omega.{arith}
 use lib.ListN.{length}
 use Rattle.octets.proofs.WriteLaws.{nothing, written, more, then}
 use Rattle.leasereply.specs.Reply.{flat}
-use Rattle.leasereply.proofs.ReplyLaws.{addresses-length, optional-some}
+use Rattle.leasepacket.specs.Layout.{encoded}
+use Rattle.leasereply.proofs.ReplyLaws.{addresses-length, some-encoded}
 use borrow.Author.Needs.{needs}
 use Rattle.leasereply.proofs.options.put_listed.Statement.{statement}
 use Rattle.leasereply.proofs.options.put_listed.Tie as tie
 
 returns : tie.Need-returns
-unfolding flat
+unfolding flat encoded
 returns c = rw (lt-ltb (c .before .before .args .n) 2 (c .if1 .taken)) nothing
 
 returns-2 : tie.Need-returns-2
-unfolding flat
+unfolding flat encoded
 returns-2 c = rw (le-ltb (c .before .before .before .args .n) 2 (c .before .if1 .left), lt-ltb 63 (c .before .before .before .args .n) (c .if2 .taken)) nothing
 
 put-octet-requires : tie.Need-put-octet-requires
@@ -39,7 +40,7 @@ returns-3 : tie.Need-returns-3
 returns-3 c =
     let s = c .before .before .before .before .before .before .before .before .before .before .before .before .before .before .before .args in
     let e : length (s .ranks) ≡ 63 = search needs in
-    rw (le-ltb (s .n) 2 (c .before .before .before .before .before .before .before .before .before .before .before .before .before .if1 .left), le-ltb 63 (s .n) (c .before .before .before .before .before .before .before .before .before .before .before .before .if2 .left)) (optional-some (addresses-length (s .ranks) (s .n) (omega arith)) (omega arith) (then (more (written (c .before .before .before .before .before .before .before .before .before .before .put-octet .ensures)) (c .before .before .before .before .before .before .put-octet2 .ensures)) (c .before .before .put-addresses .ensures)))
+    rw (le-ltb (s .n) 2 (c .before .before .before .before .before .before .before .before .before .before .before .before .before .if1 .left), le-ltb 63 (s .n) (c .before .before .before .before .before .before .before .before .before .before .before .before .if2 .left)) (some-encoded (addresses-length (s .ranks) (s .n) (omega arith)) (omega arith) (then (more (written (c .before .before .before .before .before .before .before .before .before .before .put-octet .ensures)) (c .before .before .before .before .before .before .put-octet2 .ensures)) (c .before .before .put-addresses .ensures)))
 
 pub put-listed-spec : {M : Type 1} → statement M
 put-listed-spec =

@@ -1,5 +1,6 @@
 use Rattle.octets.proofs.WriteLaws.{then, more}
 use Rattle.leasereply.specs.Reply.{otherReply}
+use Rattle.leasereply.proofs.ReplyLaws.{other-parts}
 use borrow.Author.Needs.{needs}
 use Rattle.leasereply.proofs.reply.put_other.Statement.{statement}
 use Rattle.leasereply.proofs.reply.put_other.Tie as tie
@@ -45,7 +46,7 @@ same-length c = search needs
 
 returns : tie.Need-returns
 unfolding otherReply
-returns c = more (then (then (c .before .before .before .before .before .before .before .before .before .before .before .before .before .before .put-fixed .ensures) (c .before .before .before .before .before .before .before .before .before .before .put-kind .ensures)) (c .before .before .before .before .before .before .put-number .ensures)) (c .before .before .put-octet .ensures)
+returns c = rw (other-parts _ _ _ _) (more (then (then (c .before .before .before .before .before .before .before .before .before .before .before .before .before .before .put-fixed .ensures) (c .before .before .before .before .before .before .before .before .before .before .put-kind .ensures)) (c .before .before .before .before .before .before .put-number .ensures)) (c .before .before .put-octet .ensures))
 
 pub put-other-spec : {M : Type 1} → statement M
 put-other-spec =

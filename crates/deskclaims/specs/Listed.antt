@@ -1,0 +1,17 @@
+-- A box sends no option that it was not asked for, said of any result that meets the promise of its call. Document 02, e).
+use Prim.Native.Nat.{ℕ}
+use mathlib.Core.Path.{_≡_}
+use mathlib.Core.List.{[]}
+use mathlib.Core.Logic.{_⊎_}
+use Rattle.leasepacket.specs.Packet.{clientId, leaseTime, relayInformation, lastTransactionTime}
+use Rattle.leasepacket.specs.Options.{valuesIn}
+use Rattle.leaseclaims.specs.Claims.{Call}
+use Rattle.deskclaims.specs.RoundTrip.{AllTyped, replied, NotListed}
+
+-- The options that go out only if they are listed, where the query has a list: 51, 61, 82 and 91.
+abbrev pub OnlyIfListed : ℕ → Type 0
+OnlyIfListed code = (code ≡ leaseTime) ⊎ ((code ≡ clientId) ⊎ ((code ≡ relayInformation) ⊎ (code ≡ lastTransactionTime)))
+
+-- Where a query listed options and not this one, no reply to it has it, of whatever kind.
+abbrev pub SendsOnlyListed : Type 0
+SendsOnlyListed = (c : Call) → AllTyped (c .table) → c .result .refusal ≡ 0 → (code : ℕ) → OnlyIfListed code → NotListed (c .query) code → valuesIn code (replied c) ≡ []
