@@ -1,8 +1,9 @@
-//! The reply to a lease query as the desk reads it (document 02, d).
+//! The reply to a lease query as the desk reads it (document 02, d and e).
 //!
 //! A reply is taken where the box could have written its options, in any
 //! order and among others. What the box doesn't write in a kind isn't looked
-//! at in that kind.
+//! at in that kind. What the box tells of an active lease it leaves out where
+//! the query didn't list it, so any of that may be absent.
 
 use std::ops::RangeInclusive;
 
@@ -24,9 +25,10 @@ pub struct Reading {
     pub hlen: u8,
     /// All octets of the field, also those past `hlen`.
     pub chaddr: [u8; 16],
-    /// Seconds to the end of the lease, of an active lease alone.
+    /// Seconds to the end of the lease, of an active lease alone and if the
+    /// reply has them.
     pub left: Option<u32>,
-    /// Seconds since the last transaction, of an active lease alone.
+    /// Seconds since the last transaction, likewise.
     pub since: Option<u32>,
     /// The client's addresses, 0 past the count.
     pub addresses: [u32; ASSOCIATED_MAX],
@@ -54,6 +56,11 @@ impl<'a> Found<'a> {
     /// The same of an option that may also be absent.
     fn is_once_or_absent(&self, lengths: RangeInclusive<usize>) -> bool {
         self.times == 0 || self.is_once(lengths)
+    }
+
+    /// The number of four octets in the option, if it is there.
+    fn number(&self) -> Option<u32> {
+        (self.times > 0).then(|| number_at(self.value, 0))
     }
 }
 
@@ -103,8 +110,8 @@ impl<'a> Options<'a> {
     /// Option 92 carries two addresses at the least.
     fn is_active(&self) -> bool {
         let lengths = 8..=4 * ASSOCIATED_MAX;
-        self.left.is_once(4..=4)
-            && self.since.is_once(4..=4)
+        self.left.is_once_or_absent(4..=4)
+            && self.since.is_once_or_absent(4..=4)
             && self.client_id.is_once_or_absent(2..=64)
             && self.relay.is_once_or_absent(1..=64)
             && self.associated.is_once_or_absent(lengths)
@@ -145,8 +152,8 @@ fn read_reply(reply: &[u8]) -> Option<Reading> {
     if !options.is_active() {
         return None;
     }
-    reading.left = Some(number_at(options.left.value, 0));
-    reading.since = Some(number_at(options.since.value, 0));
+    reading.left = options.left.number();
+    reading.since = options.since.number();
     let octets = options.associated.value.chunks_exact(4);
     reading.count = octets.len();
     for (address, octets) in reading.addresses.iter_mut().zip(octets) {
@@ -189,8 +196,8 @@ mod tests {
         reply
     }
 
-    /// A reply about an active lease, with these options beside those that
-    /// are always there.
+    /// A reply about an active lease, with these options beside 53, 54 and
+    /// both times.
     fn active(others: &[&[u8]]) -> Vec<u8> {
         let always: [&[u8]; 4] = [&[53, 1, 13], SERVER, LEFT, SINCE];
         reply(&[&always, others].concat())
@@ -239,6 +246,40 @@ mod tests {
     }
 
     #[test]
+    fn times_that_are_absent() {
+        for (times, left, since) in [
+            (&[][..], None, None),
+            (&[LEFT], Some(1_000), None),
+            (&[SINCE], None, Some(100)),
+        ] {
+            let given: [&[u8]; 2] = [SERVER, &[53, 1, 13]];
+            let read = read(XID_GIVEN, &reply(&[&given, times].concat()));
+            assert_eq!(
+                read,
+                Ok(Reading {
+                    left,
+                    since,
+                    ..told(13)
+                })
+            );
+        }
+    }
+
+    #[test]
+    fn request_lists_are_ignored() {
+        let lists: [&[&[u8]]; 4] = [
+            &[&[55, 0]],
+            &[&[55, 1, 51]],
+            &[&[55, 0], &[55, 2, 61, 82]],
+            &[&[55, 1, 91], &[55, 1, 91], &[55, 0]],
+        ];
+        for list in lists {
+            let reading = read(XID_GIVEN, &active(list)).unwrap();
+            assert_eq!((reading.left, reading.since), (Some(1_000), Some(100)));
+        }
+    }
+
+    #[test]
     fn other_kinds_look_at_53_and_54_alone() {
         for kind in [11, 12] {
             let type_of: &[u8] = &[53, 1, kind];
@@ -273,10 +314,10 @@ mod tests {
     #[test]
     fn options_of_an_active_lease() {
         let always: [&[u8]; 4] = [&[53, 1, 13], SERVER, LEFT, SINCE];
-        for at in 0..4 {
+        for (at, needed) in [true, true, false, false].into_iter().enumerate() {
             let mut without = always.to_vec();
             let taken = without.remove(at);
-            assert!(is_malformed(&reply(&without)));
+            assert_eq!(is_malformed(&reply(&without)), needed);
             assert!(is_malformed(&active(&[taken])));
         }
         for (code, lengths) in [(61, 2..=64), (82, 1..=64), (92, 8..=252)] {

@@ -1,14 +1,17 @@
-//! The DHCPv4 lease query (document 01, "Lease table and queries").
+//! The DHCPv4 lease query (document 01, "Lease table and queries", with
+//! document 02, e).
 //!
 //! A relay asks by address, by hardware address or by client id; the answer
-//! is read from a lent table of leases.
+//! is read from a lent table of leases. What it tells of a lease is cut down
+//! to the options that the query lists, if it has a list.
 
 use std::cmp::Reverse;
 
 use crate::packet::{
     is_packet, number_at, walk_options, Writer, ASSOCIATED_IP, ASSOCIATED_MAX, CHADDR, CIADDR,
     CLIENT_ID, COOKIE, END, FLAGS, GIADDR, HLEN, HTYPE, LAST_TRANSACTION, LEASEQUERY, LEASE_TIME,
-    MAGIC, MESSAGE_TYPE, OP, OPTIONS, RELAY_INFORMATION, REPLY, REQUEST, SERVER_ID, XID,
+    MAGIC, MESSAGE_TYPE, OP, OPTIONS, RELAY_INFORMATION, REPLY, REQUEST, REQUEST_LIST, SERVER_ID,
+    XID,
 };
 use crate::{is_expiry, LATEST_MOMENT, NEVER};
 
@@ -114,23 +117,25 @@ fn check_table(table: &[Lease]) -> Result<(), u8> {
 #[derive(Default)]
 struct Options<'a> {
     message_type: Option<&'a [u8]>,
+    request_list: Option<&'a [u8]>,
     client_id: Option<&'a [u8]>,
 }
 
-/// Walks the options up to the end option; refusal 3 where they are cut or
-/// one of the two that are read comes twice.
+/// Walks the options up to the end option; refusal 3 where they are cut, one
+/// of those that are read comes twice, or the request list is empty.
 fn read_options(area: &[u8]) -> Result<Options<'_>, u8> {
     let mut options = Options::default();
     let mut repeated = false;
     let whole = walk_options(area, |code, value| {
         let before = match code {
             MESSAGE_TYPE => options.message_type.replace(value),
+            REQUEST_LIST => options.request_list.replace(value),
             CLIENT_ID => options.client_id.replace(value),
             _ => None,
         };
         repeated |= before.is_some();
     });
-    if whole && !repeated {
+    if whole && !repeated && options.request_list != Some(&[]) {
         Ok(options)
     } else {
         Err(3)
@@ -176,22 +181,42 @@ fn read_key<'a>(query: &'a [u8], client_id: Option<&'a [u8]>) -> Result<Key<'a>,
     }
 }
 
-/// Refusals 1 to 7 in their order, or the query's key.
-fn read_query(query: &[u8]) -> Result<Key<'_>, u8> {
-    if !is_packet(query) {
-        return Err(1);
+/// A query that meets none of the refusals 1 to 7.
+struct Query<'a> {
+    packet: &'a [u8],
+    key: Key<'a>,
+    /// Option 55: the codes of the options that are asked for.
+    request_list: Option<&'a [u8]>,
+}
+
+impl<'a> Query<'a> {
+    /// Reads a query, with the refusals 1 to 7 in their order.
+    fn read(packet: &'a [u8]) -> Result<Query<'a>, u8> {
+        if !is_packet(packet) {
+            return Err(1);
+        }
+        if packet[OP] != REQUEST {
+            return Err(2);
+        }
+        let options = read_options(&packet[OPTIONS..])?;
+        if options.message_type != Some(&[LEASEQUERY]) {
+            return Err(4);
+        }
+        if number_at(packet, GIADDR) == 0 {
+            return Err(5);
+        }
+        Ok(Query {
+            packet,
+            key: read_key(packet, options.client_id)?,
+            request_list: options.request_list,
+        })
     }
-    if query[OP] != REQUEST {
-        return Err(2);
+
+    /// Whether an option of the record may go out: all may where there is no
+    /// list.
+    fn asks_for(&self, code: u8) -> bool {
+        self.request_list.is_none_or(|codes| codes.contains(&code))
     }
-    let options = read_options(&query[OPTIONS..])?;
-    if options.message_type != Some(&[LEASEQUERY]) {
-        return Err(4);
-    }
-    if number_at(query, GIADDR) == 0 {
-        return Err(5);
-    }
-    read_key(query, options.client_id)
 }
 
 /// The places of a client's active records, best first. The table rises by
@@ -249,20 +274,26 @@ impl Writer<'_> {
         self.at = OPTIONS;
     }
 
-    /// The options that tell of an active lease.
-    fn lease(&mut self, now: u64, lease: &Lease) {
-        self.option(LEASE_TIME, &lease.seconds_left(now).to_be_bytes());
-        if lease.id_len > 0 {
-            self.option(CLIENT_ID, lease.client_id());
+    /// The options that tell of an active lease: those that the record has
+    /// and the query asks for.
+    fn lease(&mut self, now: u64, lease: &Lease, query: &Query) {
+        let left = lease.seconds_left(now).to_be_bytes();
+        let since = lease.seconds_since_transaction(now).to_be_bytes();
+        let options: [(u8, &[u8]); 4] = [
+            (LEASE_TIME, &left),
+            (CLIENT_ID, lease.client_id()),
+            (RELAY_INFORMATION, lease.relay_information()),
+            (LAST_TRANSACTION, &since),
+        ];
+        for (code, value) in options {
+            if !value.is_empty() && query.asks_for(code) {
+                self.option(code, value);
+            }
         }
-        if lease.relay_len > 0 {
-            self.option(RELAY_INFORMATION, lease.relay_information());
-        }
-        let since = lease.seconds_since_transaction(now);
-        self.option(LAST_TRANSACTION, &since.to_be_bytes());
     }
 
-    /// All the client's active addresses, where there are two or more.
+    /// All the client's active addresses, where there are two or more. They
+    /// need not be listed.
     fn associated(&mut self, table: &[Lease], places: &[u16]) {
         if places.len() < 2 {
             return;
@@ -294,22 +325,22 @@ pub fn answer(
     if reply.len() < REPLY_MIN {
         return Err(8);
     }
-    let key = read_query(query)?;
+    let query = Query::read(query)?;
     let mut writer = Writer {
         packet: reply,
         at: 0,
     };
-    let kind = match key {
-        Key::Address(address) => by_address(&mut writer, now, table, server, query, address),
-        _ => by_client(&mut writer, now, table, server, query, &key),
+    let kind = match query.key {
+        Key::Address(address) => by_address(&mut writer, now, table, server, &query, address),
+        _ => by_client(&mut writer, now, table, server, &query),
     };
     writer.octets(&[END]);
     Ok((kind, writer.at))
 }
 
 /// The part every reply has.
-fn start(writer: &mut Writer, query: &[u8], lease: Option<&Lease>, kind: u8, server: [u8; 4]) {
-    writer.fixed(query, lease);
+fn start(writer: &mut Writer, query: &Query, lease: Option<&Lease>, kind: u8, server: [u8; 4]) {
+    writer.fixed(query.packet, lease);
     writer.option(MESSAGE_TYPE, &[kind]);
     writer.option(SERVER_ID, &server);
 }
@@ -321,7 +352,7 @@ fn by_address(
     now: u64,
     table: &[Lease],
     server: [u8; 4],
-    query: &[u8],
+    query: &Query,
     address: u32,
 ) -> u8 {
     let found = table.binary_search_by_key(&address, |lease| lease.address);
@@ -334,28 +365,21 @@ fn by_address(
     };
     start(writer, query, active, kind, server);
     if let Some(lease) = active {
-        writer.lease(now, lease);
+        writer.lease(now, lease, query);
     }
     kind
 }
 
 /// By client only active records count, and the best of them answers.
-fn by_client(
-    writer: &mut Writer,
-    now: u64,
-    table: &[Lease],
-    server: [u8; 4],
-    query: &[u8],
-    key: &Key,
-) -> u8 {
-    let ranking = Ranking::new(now, table, key);
+fn by_client(writer: &mut Writer, now: u64, table: &[Lease], server: [u8; 4], query: &Query) -> u8 {
+    let ranking = Ranking::new(now, table, &query.key);
     let Some(&best) = ranking.places().first() else {
         start(writer, query, None, LEASEUNKNOWN, server);
         return LEASEUNKNOWN;
     };
     let lease = &table[usize::from(best)];
     start(writer, query, Some(lease), LEASEACTIVE, server);
-    writer.lease(now, lease);
+    writer.lease(now, lease, query);
     writer.associated(table, ranking.places());
     LEASEACTIVE
 }
@@ -445,6 +469,62 @@ mod tests {
             51, 4, 0, 0, 3, 232, 61, 3, 7, 7, 7, 82, 2, 9, 9, 91, 4, 0, 0, 0, 100, 255,
         ];
         assert_eq!(reply[249..], options);
+    }
+
+    /// A query by address with a request list.
+    fn listing(address: u32, codes: &[u8]) -> Vec<u8> {
+        let list = [&[53, 1, 10, 55, codes.len() as u8], codes, &[255]].concat();
+        let mut query = query(&list);
+        query[CIADDR..CIADDR + 4].copy_from_slice(&address.to_be_bytes());
+        query
+    }
+
+    #[test]
+    fn listed_options_alone() {
+        let options: [(u8, &[u8]); 4] = [
+            (51, &[51, 4, 0, 0, 3, 232]),
+            (61, &[61, 3, 7, 7, 7]),
+            (82, &[82, 2, 9, 9]),
+            (91, &[91, 4, 0, 0, 0, 100]),
+        ];
+        for chosen in 0..16 {
+            let is_listed = |at: &usize| chosen >> at & 1 == 1;
+            let listed = || (0..4).filter(is_listed).map(|at| options[at]);
+            // Codes in another order than the reply's, twice, among others.
+            let codes: Vec<u8> = listed().rev().map(|(code, _)| code).collect();
+            let codes = [&codes, &[1, 92, 0, 255][..], &codes].concat();
+            let expected: Vec<u8> = listed().flat_map(|(_, octets)| octets).copied().collect();
+            let (kind, reply) = ask(1_000, &[lease(5)], &listing(5, &codes));
+            assert_eq!(
+                (kind, &reply[249..]),
+                (13, &[&expected[..], &[255]].concat()[..])
+            );
+        }
+    }
+
+    #[test]
+    fn listed_options_that_are_not_sent() {
+        let bare = Lease {
+            id_len: 0,
+            relay_len: 0,
+            ..lease(5)
+        };
+        let none = [255];
+        assert_eq!(ask(1_000, &[bare], &listing(5, &[61, 82])).1[249..], none);
+        let all = listing(5, &[51, 61, 82, 91, 92]);
+        for (now, table, expected) in [(2_000, &[lease(5)][..], 11), (1_000, &[], 12)] {
+            let (kind, reply) = ask(now, table, &all);
+            assert_eq!((kind, &reply[249..]), (expected, &none[..]));
+        }
+    }
+
+    #[test]
+    fn option_92_without_being_listed() {
+        let mut query = listing(0, &[3; 255]);
+        query[HTYPE..HLEN + 1].copy_from_slice(&[1, 6]);
+        query[CHADDR..CHADDR + 6].copy_from_slice(&MAC);
+        let (_, reply) = ask(1_000, &[lease(5), lease(6)], &query);
+        assert_eq!(reply[249..], [92, 8, 0, 0, 0, 5, 0, 0, 0, 6, 255]);
     }
 
     #[test]
@@ -631,7 +711,7 @@ mod tests {
 
     #[test]
     fn refusals_3_to_5() {
-        let cut: [&[u8]; 7] = [
+        let cut: [&[u8]; 11] = [
             &[],
             &[53, 1, 10],
             &[53],
@@ -639,6 +719,10 @@ mod tests {
             &[12, 3, 255, 255],
             &[53, 1, 10, 53, 1, 10, 255],
             &[61, 0, 61, 0, 255],
+            &[55, 0, 255],
+            &[55, 1, 51, 53, 1, 10, 55, 1, 51, 255],
+            &[53, 1, 10, 55, 2, 255],
+            &[53, 1, 10, 55],
         ];
         for options in cut {
             assert_eq!(refusal(&[], &query(options)), 3);
@@ -648,6 +732,7 @@ mod tests {
             &[53, 0, 255],
             &[53, 2, 10, 0, 255],
             &[53, 1, 11, 255],
+            &[55, 1, 0, 255, 55, 0],
         ] {
             assert_eq!(refusal(&[], &query(options)), 4);
         }

@@ -1,6 +1,6 @@
 //! A second program for the rules of document 01, with names compared as
-//! document 02, a) has it, servers held as its b) has it and queries asked as
-//! its d) has it, in plain Rust.
+//! document 02, a) has it, servers held as its b) has it, queries asked as its
+//! d) has it and answered as its e) has it, in plain Rust.
 //!
 //! It exists to be compared with the product: same input, same answer, same
 //! refusal number, same octets. It also serves as the yardstick of the

@@ -32,6 +32,7 @@ const PAD: u8 = 0;
 pub(crate) const LEASE_TIME: u8 = 51;
 pub(crate) const MESSAGE_TYPE: u8 = 53;
 pub(crate) const SERVER_ID: u8 = 54;
+pub(crate) const REQUEST_LIST: u8 = 55;
 pub(crate) const CLIENT_ID: u8 = 61;
 pub(crate) const RELAY_INFORMATION: u8 = 82;
 pub(crate) const LAST_TRANSACTION: u8 = 91;
