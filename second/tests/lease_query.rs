@@ -6,9 +6,11 @@ use common::damage::damaged;
 use common::faults::{first, has_another, number};
 use common::leases::{self, Client};
 use common::moments::no_clock;
+use common::options::{codes, option};
 use common::product::lease_answer;
 use common::queries::Query;
 use common::random::from_both_seeds;
+use common::request_lists::{set_kinds, set_of, LISTABLE, LIST_MAX};
 use common::run::Run;
 use common::tables::Tables;
 use common::tally::Tally;
@@ -17,12 +19,15 @@ use second::lease_query::{answer, Lease, REPLY_MIN};
 use second::NEVER;
 
 /// Queries compared by one run, at the least.
-const QUERIES: usize = 400_000;
+const QUERIES: usize = 600_000;
 /// Cases of each kind, at the least.
 const EACH: usize = 1_000;
 /// Refusals in the order in which they are given.
 const ORDER: [u8; 10] = [15, 9, 8, 1, 2, 3, 4, 5, 6, 7];
+/// The options that the box writes, in its order.
+const WRITTEN: [u8; 8] = [53, 54, 51, 61, 82, 91, 92, 255];
 
+/// Kinds of cases beside the sets of options that a list decides on.
 const KINDS: &[&str] = &[
     "15: clock",
     "9: over 256 records",
@@ -47,6 +52,13 @@ const KINDS: &[&str] = &[
     "3: past the end",
     "3: 53 twice",
     "3: 61 twice",
+    "3: 55 twice",
+    "3: 55 twice, the only reason",
+    "3: 55 twice, empty",
+    "3: 55 empty",
+    "3: 55 empty, the only reason",
+    "3: 55 past the end",
+    "3: 55 without a length",
     "4: 53 absent",
     "4: 53 not one octet",
     "4: 53 not 10",
@@ -69,6 +81,7 @@ const KINDS: &[&str] = &[
     "6 ahead of another",
     "damaged query, answered",
     "damaged query, refused",
+    "damaged query, 55 before the damage",
     "by address: active",
     "by address: unassigned",
     "by address: unknown",
@@ -76,6 +89,34 @@ const KINDS: &[&str] = &[
     "by hardware: unknown",
     "by client id: active",
     "by client id: unknown",
+    "by address: active, with 55",
+    "by address: unassigned, with 55",
+    "by address: unknown, with 55",
+    "by hardware: active, with 55",
+    "by hardware: unknown, with 55",
+    "by client id: active, with 55",
+    "by client id: unknown, with 55",
+    "by address: active, without 55",
+    "by address: unassigned, without 55",
+    "by address: unknown, without 55",
+    "by hardware: active, without 55",
+    "by hardware: unknown, without 55",
+    "by client id: active, without 55",
+    "by client id: unknown, without 55",
+    "55 of 1 code",
+    "55 of 2 to 254 codes",
+    "55 of 255 codes",
+    "55 ahead of the other options",
+    "55 between other options",
+    "55 behind the other options",
+    "55 with one of the four twice",
+    "55 with another code twice",
+    "55 with a code that the box doesn't write",
+    "61 listed, not in the record",
+    "82 listed, not in the record",
+    "92 sent, not listed",
+    "92 sent and listed",
+    "92 listed, not due",
     "client id over 64 octets",
     "chaddr past hlen",
     "only leases that aren't active match",
@@ -158,8 +199,15 @@ impl Run<2> {
         }
         if let Ok((kind, length)) = expected {
             let [query, reply] = self.memory.second();
+            let list = option(query, 55);
             count_answer(&mut self.tally, case.now, table, query, kind);
             count_reply(&mut self.tally, case.now, table, &reply[..length]);
+            if let Some(list) = list {
+                count_list(&mut self.tally, list, &codes(query));
+            }
+            if kind == 13 {
+                count_active(&mut self.tally, table, list, &reply[..length]);
+            }
         }
     }
 
@@ -194,7 +242,7 @@ impl Run<2> {
     /// Which faults to plant: mostly none, else one, two or three.
     fn numbers(&mut self) -> Vec<u8> {
         let count = self.random.pick(&[0, 0, 0, 0, 0, 0, 1, 1, 2, 3]);
-        let others = [15, 8, 1, 2, 3, 3, 4, 4, 5, 6, 6, 7, 7, 7];
+        let others = [15, 8, 1, 2, 3, 3, 3, 3, 3, 4, 4, 5, 6, 6, 7, 7, 7];
         (0..count).map(|_| self.random.pick(&others)).collect()
     }
 
@@ -233,6 +281,10 @@ impl Run<2> {
         let mut case = self.case(about, &table, &clients, &[]);
         case.faults = None;
         let packets = damaged(&mut self.random, &case.packet);
+        if option(&case.packet, 55).is_some() {
+            let count = |_| self.tally.count("damaged query, 55 before the damage");
+            packets.iter().for_each(count);
+        }
         let case = |packet| Case {
             packet,
             ..case.clone()
@@ -259,29 +311,13 @@ fn count_refusal(tally: &mut Tally, faults: &[&str], fault: &str) {
     if has_another(faults, fault) {
         tally.count(&format!("{} ahead of another", number(fault)));
     }
+    if faults.len() == 1 && ["3: 55 twice", "3: 55 empty"].contains(&fault) {
+        tally.count(&format!("{fault}, the only reason"));
+    }
 }
 
 fn number_at(octets: &[u8], at: usize) -> u32 {
     u32::from_be_bytes(octets[at..at + 4].try_into().expect("four octets"))
-}
-
-/// The value of an option, if it is there.
-fn option(packet: &[u8], wanted: u8) -> Option<&[u8]> {
-    let mut rest = &packet[240..];
-    loop {
-        match *rest {
-            [255, ..] => return None,
-            [0, ..] => rest = &rest[1..],
-            [code, length, ..] => {
-                let (value, behind) = rest[2..].split_at(usize::from(length));
-                if code == wanted {
-                    return Some(value);
-                }
-                rest = behind;
-            }
-            _ => panic!("no end option"),
-        }
-    }
 }
 
 /// Counts by what was asked and what was answered.
@@ -298,6 +334,8 @@ fn count_answer(tally: &mut Tally, now: u64, table: &[Lease], query: &[u8], kind
         None => "by hardware",
     };
     tally.count(&format!("{key}: {answer}"));
+    let with = option(query, 55).map_or("without", |_| "with");
+    tally.count(&format!("{key}: {answer}, {with} 55"));
     match id {
         _ if key == "by address" => return,
         Some(id) if id.len() > 64 => tally.count("client id over 64 octets"),
@@ -358,21 +396,23 @@ fn count_reply(tally: &mut Tally, now: u64, table: &[Lease], reply: &[u8]) {
     if reply.len() == REPLY_MIN {
         tally.count("reply of 648 octets");
     }
-    if option(reply, 51).is_none() {
-        return;
+    if option(reply, 51).is_some() {
+        count_left(tally, now, answering(table, reply));
     }
-    let address = number_at(reply, 12);
-    let lease = table.iter().find(|lease| lease.address == address);
-    count_spans(tally, now, lease.expect("an active lease is in the table"));
-    for (code, kind) in [(61, "no 61 in the reply"), (82, "no 82 in the reply")] {
-        if option(reply, code).is_none() {
-            tally.count(kind);
-        }
+    if option(reply, 91).is_some() {
+        count_since(tally, now, answering(table, reply));
     }
 }
 
-/// Counts the limits that options 51 and 91 meet.
-fn count_spans(tally: &mut Tally, now: u64, lease: &Lease) {
+/// The record that a reply about an active lease was written from.
+fn answering<'a>(table: &'a [Lease], reply: &[u8]) -> &'a Lease {
+    let address = number_at(reply, 12);
+    let lease = table.iter().find(|lease| lease.address == address);
+    lease.expect("an active lease is in the table")
+}
+
+/// Counts the limits that option 51 meets.
+fn count_left(tally: &mut Tally, now: u64, lease: &Lease) {
     if lease.expiry == NEVER {
         tally.count("51: never");
     } else if lease.expiry - now > u64::from(u32::MAX) - 1 {
@@ -380,6 +420,10 @@ fn count_spans(tally: &mut Tally, now: u64, lease: &Lease) {
     } else if lease.expiry - now == u64::from(u32::MAX) - 1 {
         tally.count("51: 4,294,967,294 to go");
     }
+}
+
+/// Counts the limits that option 91 meets.
+fn count_since(tally: &mut Tally, now: u64, lease: &Lease) {
     if lease.last_transaction > now {
         tally.count("91: moment to come");
     } else if now - lease.last_transaction > u64::from(u32::MAX) {
@@ -389,7 +433,85 @@ fn count_spans(tally: &mut Tally, now: u64, lease: &Lease) {
     }
 }
 
+/// Counts what a request list has, and where it stands among the codes of the
+/// query.
+fn count_list(tally: &mut Tally, list: &[u8], codes: &[u8]) {
+    let twice = |code: &&u8| list.iter().filter(|other| other == code).count() > 1;
+    let (four, others): (Vec<u8>, Vec<u8>) = list
+        .iter()
+        .filter(twice)
+        .partition(|code| LISTABLE.contains(code));
+    let unwritten = |code: &u8| !WRITTEN.contains(code);
+    let (first, last) = (codes[0] == 55, codes[codes.len() - 1] == 55);
+    let facts = [
+        (list.len() == 1, "55 of 1 code"),
+        ((2..LIST_MAX).contains(&list.len()), "55 of 2 to 254 codes"),
+        (list.len() == LIST_MAX, "55 of 255 codes"),
+        (first, "55 ahead of the other options"),
+        (last, "55 behind the other options"),
+        (!first && !last, "55 between other options"),
+        (!four.is_empty(), "55 with one of the four twice"),
+        (!others.is_empty(), "55 with another code twice"),
+        (
+            list.iter().any(unwritten),
+            "55 with a code that the box doesn't write",
+        ),
+    ];
+    let holding = facts.into_iter().filter(|fact| fact.0);
+    holding.for_each(|(_, kind)| tally.count(kind));
+}
+
+/// Whether a record has what an option of the four tells.
+fn is_recorded(lease: &Lease, code: u8) -> bool {
+    match code {
+        61 => lease.id_len > 0,
+        82 => lease.relay_len > 0,
+        _ => true,
+    }
+}
+
+/// Checks that a reply about an active lease has the options that are due, in
+/// the box's order, and counts those that it lacks.
+fn count_active(tally: &mut Tally, table: &[Lease], list: Option<&[u8]>, reply: &[u8]) {
+    let lease = answering(table, reply);
+    let sent = codes(reply);
+    let is_due = |code| is_recorded(lease, code) && list.is_none_or(|list| list.contains(&code));
+    let is_sent = |code| sent.contains(&code);
+    assert_eq!(LISTABLE.map(is_sent), LISTABLE.map(is_due), "{list:?}");
+    let place = |code: &u8| WRITTEN.iter().position(|known| known == code);
+    assert!(sent.iter().map(place).is_sorted(), "{sent:?}");
+    for (code, kind) in [(61, "no 61 in the reply"), (82, "no 82 in the reply")] {
+        if !is_sent(code) {
+            tally.count(kind);
+        }
+    }
+    if let Some(list) = list {
+        count_listed(tally, lease, list, &sent);
+    }
+}
+
+/// Counts which options were listed and which of them were sent.
+fn count_listed(tally: &mut Tally, lease: &Lease, list: &[u8], sent: &[u8]) {
+    let is_listed = |code| list.contains(&code);
+    let is_sent = |code| sent.contains(&code);
+    tally.count(&format!("listed: {}", set_of(is_listed)));
+    tally.count(&format!("sent of what is listed: {}", set_of(is_sent)));
+    for code in LISTABLE {
+        if is_listed(code) && !is_recorded(lease, code) {
+            tally.count(&format!("{code} listed, not in the record"));
+        }
+    }
+    match (is_sent(92), is_listed(92)) {
+        (true, true) => tally.count("92 sent and listed"),
+        (true, false) => tally.count("92 sent, not listed"),
+        (false, true) => tally.count("92 listed, not due"),
+        (false, false) => {}
+    }
+}
+
 #[test]
 fn replies_are_the_same() {
-    from_both_seeds(|seed| Run::new(seed, KINDS).whole());
+    let (listed, sent) = (set_kinds("listed"), set_kinds("sent of what is listed"));
+    let kinds = [KINDS, &listed, &sent].concat();
+    from_both_seeds(|seed| Run::new(seed, &kinds).whole());
 }

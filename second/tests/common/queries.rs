@@ -4,20 +4,24 @@ use second::lease_query::Lease;
 
 use super::leases::Client;
 use super::random::Random;
+use super::request_lists::{some_list, LIST_MAX};
 
 const MAGIC: [u8; 4] = [99, 130, 83, 99];
-/// Codes beside 53 and 61 that a query may carry; none is read.
-const OTHERS: [u8; 10] = [1, 12, 51, 52, 54, 55, 82, 91, 92, 254];
+/// Codes beside 53, 55 and 61 that a query may carry; none is read.
+const OTHERS: [u8; 9] = [1, 12, 51, 52, 54, 82, 91, 92, 254];
+/// Octets that the options of a sound query have at the most, its key aside,
+/// so that what is planted in it still fits into a packet.
+const OPTIONS_MAX: usize = 430;
 
 /// Where the options stop, and how.
 #[derive(Clone, Copy, PartialEq, Debug)]
 enum Ending {
     End,
     Missing,
-    /// The last option claims more octets than there are.
-    Past,
-    /// The last octet is a code without a length.
-    Code,
+    /// The last option, of this code, claims more octets than there are.
+    Past(u8),
+    /// The last octet is this code, without a length.
+    Code(u8),
 }
 
 /// A query before it is laid out.
@@ -112,18 +116,23 @@ impl Query {
         self.options.retain(|option| option.0 != 61);
     }
 
+    /// Octets of the options, the key aside.
+    fn size(&self) -> usize {
+        let options = self.options.iter().filter(|option| option.0 != 61);
+        options.map(|(_, value)| 2 + value.len()).sum()
+    }
+
     /// Options nobody reads, in any order with those that are.
     fn add_others(&mut self, random: &mut Random) {
         for _ in 0..random.pick(&[0, 0, 1, 2, 5]) {
             let length = random.pick(&[0, 1, 4, 20, 80]);
             let mut value = vec![0; length];
             random.fill(&mut value);
-            self.options.push((random.pick(&OTHERS), value));
+            if self.size() + 2 + length <= OPTIONS_MAX {
+                self.options.push((random.pick(&OTHERS), value));
+            }
         }
-        for last in (1..self.options.len()).rev() {
-            let other = random.between(0, last);
-            self.options.swap(last, other);
-        }
+        random.shuffle(&mut self.options);
     }
 
     /// A query that meets no refusal.
@@ -133,6 +142,9 @@ impl Query {
         let client = &clients[random.pick(&[0, any])];
         let key = random.below(3);
         query.add_key(random, table, client, key);
+        if !random.one_in(3) {
+            query.options.push((55, some_list(random, LIST_MAX)));
+        }
         query.add_others(random);
         if random.one_in(8) {
             query.at_least = random.pick(&[300, 576, 1_499, 1_500]);
@@ -184,33 +196,88 @@ impl Query {
     }
 
     fn plant_3(&mut self, random: &mut Random) -> &'static str {
-        let doubled = random.pick(&[53, 61]);
         self.at_least = 0;
-        match random.below(5) {
+        match random.below(9) {
             0 => {
                 self.ending = Ending::Missing;
                 "3: no end option"
             }
             1 => {
-                self.ending = Ending::Past;
+                self.ending = Ending::Past(random.pick(&[12, 53, 61, 254]));
                 "3: past the end"
             }
             2 => {
-                self.ending = Ending::Code;
+                self.ending = Ending::Code(random.pick(&[1, 53, 61, 254]));
                 "3: past the end"
             }
-            _ => {
-                let value = random.pick(&[&[10][..], &[], &[10, 10], &[1, 2, 3]]);
-                for _ in 0..2 {
-                    let at = random.between(0, self.options.len());
-                    self.options.insert(at, (doubled, value.to_vec()));
-                }
-                if doubled == 53 {
-                    "3: 53 twice"
-                } else {
-                    "3: 61 twice"
-                }
+            3 => {
+                self.double(random, 53);
+                "3: 53 twice"
             }
+            4 => {
+                self.double(random, 61);
+                "3: 61 twice"
+            }
+            _ => self.plant_list(random),
+        }
+    }
+
+    /// Puts an option among the others.
+    fn insert(&mut self, random: &mut Random, code: u8, value: Vec<u8>) {
+        let at = random.between(0, self.options.len());
+        self.options.insert(at, (code, value));
+    }
+
+    /// Two more of an option.
+    fn double(&mut self, random: &mut Random, code: u8) {
+        let value = random.pick(&[&[10][..], &[], &[10, 10], &[1, 2, 3]]);
+        for _ in 0..2 {
+            self.insert(random, code, value.to_vec());
+        }
+    }
+
+    /// Makes the request list what is refused with 3.
+    fn plant_list(&mut self, random: &mut Random) -> &'static str {
+        let fault = random.below(5);
+        if fault < 2 {
+            self.double_list(random);
+            return "3: 55 twice";
+        }
+        self.options.retain(|option| option.0 != 55);
+        match fault {
+            2 => {
+                self.insert(random, 55, vec![]);
+                let other = random.pick(&[&[][..], &[51], &[61, 82], &[0]]);
+                self.insert(random, 55, other.to_vec());
+                "3: 55 twice, empty"
+            }
+            3 => {
+                self.insert(random, 55, vec![]);
+                "3: 55 empty"
+            }
+            _ if random.one_in(2) => {
+                self.ending = Ending::Past(55);
+                "3: 55 past the end"
+            }
+            _ => {
+                self.ending = Ending::Code(55);
+                "3: 55 without a length"
+            }
+        }
+    }
+
+    /// Two lists or three, none empty, side by side or apart; at times alike.
+    fn double_list(&mut self, random: &mut Random) {
+        let alike = some_list(random, 60);
+        let lists = |query: &Query| query.options.iter().filter(|o| o.0 == 55).count();
+        let wanted = random.pick(&[2, 2, 2, 3]);
+        while lists(self) < wanted {
+            let list = if random.one_in(2) {
+                alike.clone()
+            } else {
+                some_list(random, 60)
+            };
+            self.insert(random, 55, list);
         }
     }
 
@@ -310,7 +377,7 @@ impl Query {
         let octets = packet.len().max(self.at_least);
         packet.resize(
             self.octets.unwrap_or(octets),
-            random.pick(&[0, 53, 61, 255]),
+            random.pick(&[0, 53, 55, 61, 255]),
         );
         packet
     }
@@ -320,16 +387,17 @@ impl Query {
             Ending::End => {
                 packet.push(255);
                 // What follows is ignored, though it looks like options.
-                let tail = random.pick(&[&[][..], &[0, 0, 0], &[53, 1, 10, 61, 9], &[61]]);
+                let list = [55, 0, 55, 1, 51];
+                let tail = random.pick(&[&[][..], &[0, 0, 0], &[53, 1, 10, 61, 9], &[61], &list]);
                 packet.extend(tail);
             }
             Ending::Missing => packet.resize(packet.len() + random.below(3), 0),
-            Ending::Past => {
+            Ending::Past(code) => {
                 let claimed = random.between(1, 255);
-                packet.extend([random.pick(&[12, 53, 61, 254]), claimed as u8]);
+                packet.extend([code, claimed as u8]);
                 packet.resize(packet.len() + random.below(claimed), 255);
             }
-            Ending::Code => packet.push(random.pick(&[1, 53, 61, 254])),
+            Ending::Code(code) => packet.push(code),
         }
     }
 }

@@ -67,6 +67,14 @@ impl Random {
         items[self.below(items.len())]
     }
 
+    /// Puts items in any order.
+    pub fn shuffle<T>(&mut self, items: &mut [T]) {
+        for last in (1..items.len()).rev() {
+            let other = self.between(0, last);
+            items.swap(last, other);
+        }
+    }
+
     pub fn fill(&mut self, octets: &mut [u8]) {
         for part in octets.chunks_mut(8) {
             let drawn = self.next().to_le_bytes();
