@@ -9,8 +9,9 @@ use common::leases;
 use common::product::lease_reading;
 use common::queries::Query;
 use common::random::{from_both_seeds, Random};
-use common::replies::{Reply, UNREAD, WRITTEN};
+use common::replies::{Reply, REQUEST_LIST, UNREAD, WRITTEN};
 use common::reply_faults;
+use common::request_lists::{set_kinds, set_of, LISTABLE};
 use common::run::Run;
 use common::tables::Tables;
 use jespurla::raw::{self, Moment};
@@ -18,13 +19,14 @@ use second::desk_reply::{read, Reading};
 use second::lease_query::REPLY_MIN;
 
 /// Replies compared by one run, at the least.
-const REPLIES: usize = 400_000;
+const REPLIES: usize = 600_000;
 /// Cases of each kind, at the least.
 const EACH: usize = 1_000;
 /// Refusals in the order in which they are given.
 const ORDER: [u8; 2] = [20, 21];
 
-/// Kinds of cases beside the faults of a reply.
+/// Kinds of cases beside the faults of a reply and the sets of options that
+/// it lacks.
 const KINDS: &[&str] = &[
     "20 for two reasons",
     "20 ahead of 21",
@@ -48,11 +50,19 @@ const KINDS: &[&str] = &[
     "51: all ones",
     "91: 0",
     "91: all ones",
+    "kind 13 with 51",
+    "kind 13 without 51",
     "kind 13 with 61",
     "kind 13 without 61",
     "kind 13 with 82",
     "kind 13 without 82",
+    "kind 13 with 91",
+    "kind 13 without 91",
     "kind 13 without 92",
+    "left and since",
+    "left alone",
+    "since alone",
+    "neither left nor since",
     "92 of 2 addresses",
     "92 of 3 to 62 addresses",
     "92 of 63 addresses",
@@ -70,6 +80,23 @@ const KINDS: &[&str] = &[
     "11 or 12 with 82 twice",
     "11 or 12 with 91 twice",
     "11 or 12 with 92 twice",
+    "kind 11: 55 absent",
+    "kind 11: 55 empty",
+    "kind 11: 55 once",
+    "kind 11: 55 twice or more, none empty",
+    "kind 11: 55 twice or more, one empty",
+    "kind 12: 55 absent",
+    "kind 12: 55 empty",
+    "kind 12: 55 once",
+    "kind 12: 55 twice or more, none empty",
+    "kind 12: 55 twice or more, one empty",
+    "kind 13: 55 absent",
+    "kind 13: 55 empty",
+    "kind 13: 55 once",
+    "kind 13: 55 twice or more, none empty",
+    "kind 13: 55 twice or more, one empty",
+    "55 lists an option that is absent",
+    "55 doesn't list an option that is there",
     "damaged reply, read",
     "damaged reply, refused with 20",
     "damaged reply, refused with 21",
@@ -192,6 +219,7 @@ impl Run<1> {
         for kind in carried(reply) {
             self.tally.count(kind);
         }
+        self.count_lists(reply);
         match reply.kind {
             13 => self.count_active(reply),
             _ => UNREAD
@@ -200,12 +228,52 @@ impl Run<1> {
         }
     }
 
+    /// Counts the request lists of a reply, which nobody looks at.
+    fn count_lists(&mut self, reply: &Reply) {
+        let lengths = lengths(reply, REQUEST_LIST);
+        let how = match lengths[..] {
+            [] => "absent",
+            [0] => "empty",
+            [_] => "once",
+            _ if lengths.contains(&0) => "twice or more, one empty",
+            _ => "twice or more, none empty",
+        };
+        self.tally.count(&format!("kind {}: 55 {how}", reply.kind));
+    }
+
+    /// Counts where the only request list and the options of a reply about an
+    /// active lease don't fit together.
+    fn count_misfits(&mut self, reply: &Reply) {
+        let is_list = |option: &&(u8, Vec<u8>)| option.0 == REQUEST_LIST;
+        let lists: Vec<_> = reply.options.iter().filter(is_list).collect();
+        let [(_, list)] = lists[..] else {
+            return;
+        };
+        let is_listed = |code: u8| list.contains(&code);
+        let is_there = |code: u8| !lengths(reply, code).is_empty();
+        if LISTABLE
+            .iter()
+            .any(|&code| is_listed(code) && !is_there(code))
+        {
+            self.tally.count("55 lists an option that is absent");
+        }
+        if LISTABLE
+            .iter()
+            .any(|&code| !is_listed(code) && is_there(code))
+        {
+            self.tally.count("55 doesn't list an option that is there");
+        }
+    }
+
     /// Counts what a reply about an active lease carries.
     fn count_active(&mut self, reply: &Reply) {
-        for code in [61, 82] {
+        for code in LISTABLE {
             let with = ["without", "with"][lengths(reply, code).len()];
             self.tally.count(&format!("kind 13 {with} {code}"));
         }
+        let lacking = set_of(|code| lengths(reply, code).is_empty());
+        self.tally.count(&format!("kind 13 lacks: {lacking}"));
+        self.count_misfits(reply);
         let told = reply.told();
         match told.count {
             0 => self.tally.count("kind 13 without 92"),
@@ -215,6 +283,12 @@ impl Run<1> {
         }
         self.count_span("51", told.left);
         self.count_span("91", told.since);
+        self.tally.count(match (told.left, told.since) {
+            (Some(_), Some(_)) => "left and since",
+            (Some(_), None) => "left alone",
+            (None, Some(_)) => "since alone",
+            (None, None) => "neither left nor since",
+        });
     }
 
     fn count_span(&mut self, code: &str, span: Option<u32>) {
@@ -375,9 +449,11 @@ impl Run<1> {
     }
 
     fn sweeps(&mut self) {
-        for (kind, code) in (11..=13).flat_map(|kind| WRITTEN.map(|code| (kind, code))) {
-            self.option_lengths(kind, code);
-            self.option_repeats(kind, code);
+        for kind in 11..=13 {
+            for code in WRITTEN.into_iter().chain([REQUEST_LIST]) {
+                self.option_lengths(kind, code);
+                self.option_repeats(kind, code);
+            }
         }
         self.octet_values();
         self.packet_lengths();
@@ -411,6 +487,7 @@ impl Run<1> {
 
 #[test]
 fn readings_are_the_same() {
-    let kinds = [&reply_faults::labels(), KINDS].concat();
+    let lacking = set_kinds("kind 13 lacks");
+    let kinds = [&reply_faults::labels(), KINDS, &lacking].concat();
     from_both_seeds(|seed| Run::new(seed, &kinds).whole());
 }

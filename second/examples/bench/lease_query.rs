@@ -86,7 +86,12 @@ fn by_id() -> Vec<u8> {
 }
 
 fn by_address(address: u32) -> Vec<u8> {
-    let mut query = query(&[]);
+    by_address_with(address, &[])
+}
+
+/// A query by address with these options behind option 53.
+fn by_address_with(address: u32, options: &[u8]) -> Vec<u8> {
+    let mut query = query(options);
     query[12..16].copy_from_slice(&address.to_be_bytes());
     query
 }
@@ -141,6 +146,10 @@ pub fn run(rows: &mut Table) {
     let full = full_table(0);
     case(rows, "by address, active", &full, &by_address(200));
     case(rows, "by address, unknown", &full, &by_address(1_000));
+    let all = by_address_with(200, &[55, 4, 51, 61, 82, 91]);
+    case(rows, "by address, active, 4 options listed", &full, &all);
+    let one = by_address_with(200, &[55, 1, 51]);
+    case(rows, "by address, active, 1 option listed", &full, &one);
     for count in [1, 16, 64, TABLE_MAX] {
         sizes(rows, count);
     }

@@ -269,9 +269,9 @@ impl Query {
     /// Two lists or three, none empty, side by side or apart; at times alike.
     fn double_list(&mut self, random: &mut Random) {
         let alike = some_list(random, 60);
-        let lists = |query: &Query| query.options.iter().filter(|o| o.0 == 55).count();
+        let is_list = |option: &&(u8, Vec<u8>)| option.0 == 55;
         let wanted = random.pick(&[2, 2, 2, 3]);
-        while lists(self) < wanted {
+        while self.options.iter().filter(is_list).count() < wanted {
             let list = if random.one_in(2) {
                 alike.clone()
             } else {

@@ -3,14 +3,17 @@
 use second::desk_reply::{Reading, ASSOCIATED_MAX};
 
 use super::random::Random;
+use super::request_lists::{some_list, LISTABLE};
 
 const MAGIC: [u8; 4] = [99, 130, 83, 99];
 /// The options that the box writes, in its order.
 pub const WRITTEN: [u8; 7] = [53, 54, 51, 61, 82, 91, 92];
 /// Those that are not looked at in a reply of kind 11 or 12.
 pub const UNREAD: [u8; 5] = [51, 61, 82, 91, 92];
-/// Codes that the box writes in no reply.
-const FOREIGN: [u8; 9] = [1, 12, 50, 52, 55, 60, 81, 90, 254];
+/// Codes that the box writes in no reply, beside that of a request list.
+const FOREIGN: [u8; 8] = [1, 12, 50, 52, 60, 81, 90, 254];
+/// The request list, which a reply may carry as well.
+pub const REQUEST_LIST: u8 = 55;
 const PAD: u8 = 0;
 /// Octets that the options of a sound reply have at the most, so that two
 /// more of any length fit.
@@ -69,22 +72,23 @@ impl Reply {
         reply
     }
 
-    /// A reply that meets no refusal, with what the box writes in this kind.
+    /// A reply that meets no refusal, with what the box writes in this kind;
+    /// each option that a request list decides on is there or not.
     pub fn bare(random: &mut Random, kind: u8) -> Reply {
         let mut reply = Reply::new(random, kind);
         if kind != 13 {
             return reply;
         }
-        reply.push_span(random, 51);
-        if !random.one_in(3) {
-            let length = random.pick(&[2, 3, 19, 63, 64]);
-            reply.push(random, 61, length);
+        for code in LISTABLE {
+            let id = random.pick(&[2, 3, 19, 63, 64]);
+            let relay = random.pick(&[1, 2, 20, 63, 64]);
+            match code {
+                _ if random.one_in(2) => {}
+                61 => reply.push(random, code, id),
+                82 => reply.push(random, code, relay),
+                _ => reply.push_span(random, code),
+            }
         }
-        if !random.one_in(3) {
-            let length = random.pick(&[1, 2, 20, 63, 64]);
-            reply.push(random, 82, length);
-        }
-        reply.push_span(random, 91);
         if !random.one_in(3) {
             let count = random.between(2, ASSOCIATED_MAX);
             let length = 4 * random.pick(&[2, 3, count, 62, 63]);
@@ -100,9 +104,10 @@ impl Reply {
         if kind != 13 && !random.one_in(3) {
             reply.add_unread(random);
         }
+        reply.add_lists(random);
         reply.add_foreign(random);
         if !random.one_in(4) {
-            reply.shuffle(random);
+            random.shuffle(&mut reply.options);
         }
         reply.tail = random
             .pick(&[&[][..], &[], &[0, 0], &[53, 1, 10, 61, 9], &[255]])
@@ -129,6 +134,20 @@ impl Reply {
         }
     }
 
+    /// Request lists, none to three, at times empty ones.
+    fn add_lists(&mut self, random: &mut Random) {
+        for _ in 0..random.pick(&[0, 0, 0, 1, 1, 2, 3]) {
+            let list = match random.below(3) {
+                0 => vec![],
+                _ => some_list(random, 40),
+            };
+            if self.size() + 2 + list.len() <= OPTIONS_MAX {
+                let at = random.between(0, self.options.len());
+                self.options.insert(at, (REQUEST_LIST, list));
+            }
+        }
+    }
+
     /// Options that the box never writes, and padding.
     fn add_foreign(&mut self, random: &mut Random) {
         for _ in 0..random.pick(&[0, 0, 1, 2, 5]) {
@@ -140,14 +159,6 @@ impl Reply {
         }
         for _ in 0..random.pick(&[0, 0, 1, 3]) {
             self.insert(random, PAD, 0);
-        }
-    }
-
-    /// Puts the options in any order.
-    fn shuffle(&mut self, random: &mut Random) {
-        for last in (1..self.options.len()).rev() {
-            let other = random.between(0, last);
-            self.options.swap(last, other);
         }
     }
 
@@ -201,9 +212,9 @@ impl Reply {
         self.insert(random, code, other);
     }
 
-    fn value(&self, code: u8) -> &[u8] {
+    fn value(&self, code: u8) -> Option<&[u8]> {
         let found = self.options.iter().find(|option| option.0 == code);
-        found.map_or(&[], |(_, value)| value)
+        found.map(|(_, value)| &value[..])
     }
 
     /// What a sound reply says.
@@ -221,9 +232,9 @@ impl Reply {
         };
         if self.kind == 13 {
             let number = |octets: &[u8]| u32::from_be_bytes(octets.try_into().expect("four"));
-            told.left = Some(number(self.value(51)));
-            told.since = Some(number(self.value(91)));
-            for octets in self.value(92).chunks(4) {
+            told.left = self.value(51).map(number);
+            told.since = self.value(91).map(number);
+            for octets in self.value(92).unwrap_or(&[]).chunks(4) {
                 told.addresses[told.count] = number(octets);
                 told.count += 1;
             }
