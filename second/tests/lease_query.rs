@@ -27,6 +27,9 @@ const ORDER: [u8; 10] = [15, 9, 8, 1, 2, 3, 4, 5, 6, 7];
 /// The options that the box writes, in its order.
 const WRITTEN: [u8; 8] = [53, 54, 51, 61, 82, 91, 92, 255];
 
+/// Faults of the request list by itself.
+const LIST_FAULTS: [&str; 3] = ["3: 55 twice", "3: 55 twice, empty", "3: 55 empty"];
+
 /// Kinds of cases beside the sets of options that a list decides on.
 const KINDS: &[&str] = &[
     "15: clock",
@@ -54,6 +57,8 @@ const KINDS: &[&str] = &[
     "3: 61 twice",
     "3: 55 twice",
     "3: 55 twice, the only reason",
+    "3: 55 twice, side by side",
+    "3: 55 twice, others between",
     "3: 55 twice, empty",
     "3: 55 empty",
     "3: 55 empty, the only reason",
@@ -79,6 +84,8 @@ const KINDS: &[&str] = &[
     "4 ahead of another",
     "5 ahead of another",
     "6 ahead of another",
+    "2 ahead of 3 for 55",
+    "3 for 55 ahead of 4",
     "damaged query, answered",
     "damaged query, refused",
     "damaged query, 55 before the damage",
@@ -106,6 +113,7 @@ const KINDS: &[&str] = &[
     "55 of 1 code",
     "55 of 2 to 254 codes",
     "55 of 255 codes",
+    "55 of 255 codes, the last one of the four, only there",
     "55 ahead of the other options",
     "55 between other options",
     "55 behind the other options",
@@ -194,6 +202,7 @@ impl Run<2> {
                 assert_eq!(fault.map(number), expected.err(), "{case:02x?}");
                 if let Some(fault) = fault {
                     count_refusal(&mut self.tally, faults, fault);
+                    count_list_refusal(&mut self.tally, faults, &case.packet);
                 }
             }
         }
@@ -311,8 +320,36 @@ fn count_refusal(tally: &mut Tally, faults: &[&str], fault: &str) {
     if has_another(faults, fault) {
         tally.count(&format!("{} ahead of another", number(fault)));
     }
-    if faults.len() == 1 && ["3: 55 twice", "3: 55 empty"].contains(&fault) {
-        tally.count(&format!("{fault}, the only reason"));
+}
+
+/// Whether another option stands between the request lists of a query.
+fn is_between_lists(codes: &[u8]) -> bool {
+    let lists = codes.iter().skip_while(|&&code| code != 55);
+    let mut behind = lists.skip_while(|&&code| code == 55);
+    behind.any(|&code| code == 55)
+}
+
+/// Counts what stands beside a fault of the request list.
+fn count_list_refusal(tally: &mut Tally, faults: &[&str], packet: &[u8]) {
+    if !faults.iter().any(|fault| LIST_FAULTS.contains(fault)) {
+        return;
+    }
+    let others: Vec<u8> = faults.iter().map(|fault| number(fault)).collect();
+    match first(&ORDER, faults).map(number) {
+        Some(2) => tally.count("2 ahead of 3 for 55"),
+        Some(3) if others.contains(&4) => tally.count("3 for 55 ahead of 4"),
+        _ => {}
+    }
+    match faults {
+        ["3: 55 empty"] => tally.count("3: 55 empty, the only reason"),
+        ["3: 55 twice"] => {
+            tally.count("3: 55 twice, the only reason");
+            tally.count(match is_between_lists(&codes(packet)) {
+                true => "3: 55 twice, others between",
+                false => "3: 55 twice, side by side",
+            });
+        }
+        _ => {}
     }
 }
 
@@ -447,6 +484,10 @@ fn count_list(tally: &mut Tally, list: &[u8], codes: &[u8]) {
         (list.len() == 1, "55 of 1 code"),
         ((2..LIST_MAX).contains(&list.len()), "55 of 2 to 254 codes"),
         (list.len() == LIST_MAX, "55 of 255 codes"),
+        (
+            list.len() == LIST_MAX && is_last_alone(list),
+            "55 of 255 codes, the last one of the four, only there",
+        ),
         (first, "55 ahead of the other options"),
         (last, "55 behind the other options"),
         (!first && !last, "55 between other options"),
@@ -459,6 +500,14 @@ fn count_list(tally: &mut Tally, list: &[u8], codes: &[u8]) {
     ];
     let holding = facts.into_iter().filter(|fact| fact.0);
     holding.for_each(|(_, kind)| tally.count(kind));
+}
+
+/// Whether the last code of a list is one of the four and stands only there.
+fn is_last_alone(list: &[u8]) -> bool {
+    let [before @ .., last] = list else {
+        return false;
+    };
+    LISTABLE.contains(last) && !before.contains(last)
 }
 
 /// Whether a record has what an option of the four tells.

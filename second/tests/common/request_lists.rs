@@ -8,22 +8,27 @@ pub const LISTABLE: [u8; 4] = [51, 61, 82, 91];
 pub const LIST_MAX: usize = 255;
 
 /// A list of one code to `most`, which is 4 or more. Each set of the four is
-/// as likely as another; other codes stand among them, and codes twice.
+/// as likely as another; other codes stand among them, and at times codes
+/// twice.
 pub fn some_list(random: &mut Random, most: usize) -> Vec<u8> {
     let set = random.below(16);
     let mut list = LISTABLE.to_vec();
     list.retain(|&code| set >> place(code) & 1 == 1);
     let more = random.pick(&[0, 0, 1, 3, 20, LIST_MAX]);
     let codes = (list.len() + more).clamp(1, most);
+    let twice = random.one_in(2);
     while list.len() < codes {
         let code = match list.len() {
             0 => other_code(random),
-            there if random.one_in(3) => list[random.below(there)],
+            there if twice && random.one_in(3) => list[random.below(there)],
             _ => other_code(random),
         };
         list.push(code);
     }
     random.shuffle(&mut list);
+    if random.one_in(4) {
+        list.sort_by_key(|code| LISTABLE.contains(code));
+    }
     list
 }
 
