@@ -34,7 +34,8 @@ use Rattle.deskreply.specs.Reading as read
 use Rattle.deskreply.specs.Promise.{isThere, answered}
 use Rattle.deskclaims.specs.Asks.{Address}
 use Rattle.deskclaims.specs.RoundTrip.{Typed, AllTyped, replied, ReadBack, timeFor, fromQuery, fromLease, ReadsQuery, NotListed, AbsentExactly, ReadsLease, RoundTrip}
-use Rattle.deskclaims.specs.Listed.{OnlyIfListed, SendsOnlyListed}
+use Rattle.deskclaims.specs.Listed.{OnlyIfListed, SendsOnlyListed, AnsweredInFull}
+use Rattle.deskclaims.proofs.Asks.{asks-for-all}
 use Rattle.deskclaims.proofs.KindLaws.{AllAddress, Formed, Given, lacks-other, reads-other, reads-active, lacks-active}
 
 -- ---- what is known of the records of a table
@@ -267,3 +268,19 @@ sends-only-listed c a r code o n =
 
 pub round-trip : RoundTrip
 round-trip c d a r = by-outcome c d r a (table-fits c r) (outcome c r) refl (back c a (table-fits c r) (asking (c .query)) (not-refused c r))
+
+-- ---- a desk's own query is answered in full
+pub answered-in-full : AnsweredInFull
+unfolding isRequested
+answered-in-full a c d t w q r k = go (round-trip c d t r)
+  where
+    all-asked : (code : ℕ) → isRequested (c .query) code ≡ true
+    all-asked code = ap (requestedBy code) (ap requestList q ∙ asks-for-all a w)
+
+    not-13 : (n : ℕ) → n ≡ 13 → (n ≡ 11) ⊎ (n ≡ 12) → ⊥
+    not-13 n e (inl f) = omega (arith, e, f)
+    not-13 n e (inr f) = omega (arith, e, f)
+
+    go : ReadsQuery c d ⊎ ReadsLease c d → (d .result .«has_left» ≡ 1) × (d .result .«has_since» ≡ 1)
+    go (inl o) = absurd (not-13 (c .result .kind) k (o .kind))
+    go (inr o) = (ap (λ x. x .«has_left») (o .reads) ∙ rw (all-asked 51), ap (λ x. x .«has_since») (o .reads) ∙ rw (all-asked 91))

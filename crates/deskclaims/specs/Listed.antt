@@ -1,4 +1,5 @@
--- A box sends no option that it was not asked for, said of any result that meets the promise of its call. Document 02, e).
+-- A box sends no option that it was not asked for, and answers a desk's own query in full, said of any results that meet the promises of the
+-- calls. Document 02, e).
 use Prim.Native.Nat.{ℕ}
 use mathlib.Core.Path.{_≡_}
 use mathlib.Core.List.{[]}
@@ -6,7 +7,8 @@ use mathlib.Core.Logic.{_⊎_}
 use Rattle.leasepacket.specs.Packet.{clientId, leaseTime, relayInformation, lastTransactionTime}
 use Rattle.leasepacket.specs.Options.{valuesIn}
 use Rattle.leaseclaims.specs.Claims.{Call}
-use Rattle.deskclaims.specs.RoundTrip.{AllTyped, replied, NotListed}
+use Rattle.deskclaims.specs.Asks.{Asking, sent}
+use Rattle.deskclaims.specs.RoundTrip.{AllTyped, replied, ReadBack, NotListed}
 
 -- The options that go out only if they are listed, where the query has a list: 51, 61, 82 and 91.
 abbrev pub OnlyIfListed : ℕ → Type 0
@@ -15,3 +17,7 @@ OnlyIfListed code = (code ≡ leaseTime) ⊎ ((code ≡ clientId) ⊎ ((code ≡
 -- Where a query listed options and not this one, no reply to it has it, of whatever kind.
 abbrev pub SendsOnlyListed : Type 0
 SendsOnlyListed = (c : Call) → AllTyped (c .table) → c .result .refusal ≡ 0 → (code : ℕ) → OnlyIfListed code → NotListed (c .query) code → valuesIn code (replied c) ≡ []
+
+-- A desk's query has no list, so that it is told both times of an active lease.
+abbrev pub AnsweredInFull : Type 0
+AnsweredInFull = (a : Asking) (c : Call) (d : ReadBack c) → AllTyped (c .table) → a .result .refusal ≡ 0 → c .query ≡ sent a → c .result .refusal ≡ 0 → c .result .kind ≡ 13 → (d .result .«has_left» ≡ 1) × (d .result .«has_since» ≡ 1)

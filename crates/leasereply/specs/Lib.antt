@@ -1,2 +1,3 @@
--- The definitions that the contracts cite.
+-- The definitions that the contracts cite, and equations of them.
 pub mod Reply
+pub mod Equations
