@@ -5,6 +5,6 @@ use Prim.Native.Nat.{ℕ, _+_, _*_}
 abbrev pub versionOf : ℕ → ℕ → ℕ → ℕ
 versionOf major minor patch = major * 65536 + minor * 256 + patch
 
--- This is 0.5.0.
+-- This is 0.6.0.
 unfoldable pub version : ℕ
-version = versionOf 0 5 0
+version = versionOf 0 6 0
