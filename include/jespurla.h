@@ -299,19 +299,22 @@ typedef struct {
  *    record that is not active, LEASEUNKNOWN where it has none.
  *  - By client: LEASEACTIVE where the client has an active lease, about the one with the latest
  *    last transaction (of several the lowest address); else LEASEUNKNOWN. Never LEASEUNASSIGNED.
- * The giaddr takes no part in the choice, and options 52 and 55 are not followed.
+ * The giaddr takes no part in the choice, and option 52 is not followed.
  * The reply has op 2 and copies xid, flags and giaddr; ciaddr, htype, hlen and chaddr are those of
  * the active lease, and in any other reply those of the query. Its options, in this order: 53, the
  * kind; 54, the server's address; of an active lease 51, the seconds left (all ones for never, at
  * most one less for any other), 61 and 82, the client id and the relay information if there are
  * any, 91, the seconds since the last transaction (0 where that lies ahead, at most all ones), and,
  * by client with two or more active leases, 92, their addresses, the latest first, at most 63; 255.
- * The octets of reply past it keep their values.
+ * Of 51, 61, 82 and 91 a query that has option 55, the parameter request list (RFC 2132), gets only
+ * those that it lists, in the order above, and none that the lease lacks. 53, 54, 92 and 255 are
+ * sent as without it, and any other code in the list, or one that stands there twice, changes
+ * nothing. The octets of reply past it keep their values.
  * Refusals: 15 clock above JESPURLA_LATEST; 9 the table breaks its form; 8 reply too short; 1
  * packet under JESPURLA_PACKET_MIN or over JESPURLA_PACKET_MAX octets, or a wrong cookie; 2 op not
- * 1; 3 options past the end, no end option, or 53 or 61 twice; 4 option 53 absent, not one octet or
- * not 10; 5 giaddr zero; 6 not exactly one key; 7 hardware key with hlen 0 or above 16, or a client
- * id of 0 or 1 octets.
+ * 1; 3 options past the end, no end option, 53, 55 or 61 twice, or 55 empty; 4 option 53 absent,
+ * not one octet or not 10; 5 giaddr zero; 6 not exactly one key; 7 hardware key with hlen 0 or
+ * above 16, or a client id of 0 or 1 octets.
  * A server that gets 1 to 7 drops the packet and sends nothing; 8, 9 and 15 are about its own
  * memory and clock.
  */
@@ -346,8 +349,9 @@ typedef struct {
  * hardware htype is the type, hlen the number of octets and chaddr these octets, with zeros behind
  * them. All other fields before the cookie are zero. Then come the cookie and the options: 53 with
  * 10, a lease query; by client id 61, the id; 255. The octets of query past it keep their values.
- * jespurla_lease_query takes every query that is written here, with this one key. A client id of
- * over JESPURLA_CLIENT_ID_MAX octets is written, and that server answers LEASEUNKNOWN.
+ * jespurla_lease_query takes every query that is written here, with this one key, and leaves
+ * nothing out of its reply, since the query has no option 55. A client id of over
+ * JESPURLA_CLIENT_ID_MAX octets is written, and that server answers LEASEUNKNOWN.
  * Refusals: 19 giaddr zero; 19 address zero, hardware address of no octets or over
  * JESPURLA_HARDWARE_MAX, or client id of under 2 octets or over JESPURLA_QUERY_CLIENT_ID_MAX; 32
  * query under JESPURLA_LEASE_QUERY_MIN octets, also where this query would fit.
@@ -367,8 +371,9 @@ jespurla_query_answer jespurla_query_by_client_id(uint32_t xid, uint32_t giaddr,
 
 /*
  * What stands in a reply. Its two times are spans: how long the lease has still to run, and how
- * long ago the last transaction was, counted from when the server wrote the reply. Without a time
- * both numbers of it are 0.
+ * long ago the last transaction was, counted from when the server wrote the reply. A LEASEACTIVE
+ * may lack either, so look at has_left and has_since first: of a time that is absent both numbers
+ * are 0.
  */
 typedef struct {
     uint32_t refusal;
@@ -392,24 +397,25 @@ typedef struct {
  * reply, reply_length: the packet, as UDP carried it, from op on. It is only read.
  *
  * The rule: the kind is that of option 53; address, htype, hlen and chaddr are the fields of these
- * names, address that of ciaddr. Of LEASEACTIVE left is option 51, since option 91, and addresses
- * are those of option 92 in its order, none where it is absent: the active leases of a client that
- * has two or more, the latest first, the one of address among them. LEASEUNASSIGNED and
- * LEASEUNKNOWN have neither time and no addresses. Every reply of jespurla_lease_query is read back
- * with the values that it was written from.
+ * names, address that of ciaddr. Of LEASEACTIVE left is option 51 and since option 91, each absent
+ * where its option is, and addresses are those of option 92 in its order, none where it is absent:
+ * the active leases of a client that has two or more, the latest first, the one of address among
+ * them. LEASEUNASSIGNED and LEASEUNKNOWN have neither time and no addresses. Every reply of
+ * jespurla_lease_query is read back with the values that it was written from. A LEASEACTIVE of that
+ * call lacks a time exactly where its query had a list, option 55, without it.
  * Refusals: 20 a malformed reply; 21 its xid is not that of the query. A reply is malformed where
  * it has under JESPURLA_PACKET_MIN or over JESPURLA_PACKET_MAX octets, or a wrong cookie; where its
  * options run past the end, lack the end option, or have 53 or 61 twice; where its op is not 2 or
  * its hlen above 16; or by one of these options:
  *  - 53: must be there once, with one octet, 11 to 13;
  *  - 54: must be there once, with 4 octets;
- *  - 51 and 91, of LEASEACTIVE alone: must each be there once, with 4 octets;
- *  - 61, of LEASEACTIVE alone: has 2 to 64 octets;
+ *  - 51 and 91, of LEASEACTIVE alone: may each be there once, with 4 octets;
+ *  - 61, of LEASEACTIVE alone: may be there once, with 2 to 64 octets;
  *  - 82, of LEASEACTIVE alone: may be there once, with 1 to 64 octets;
  *  - 92, of LEASEACTIVE alone: may be there once, with 8 to 252 octets, a multiple of 4.
  * In the other two kinds the options of LEASEACTIVE are not looked at, but that 61 twice is
- * malformed there too. The order of options does not matter, nor does any other option; option 52
- * is not followed.
+ * malformed there too. The order of options does not matter, nor does any other option, 55 among
+ * them; option 52 is not followed.
  * A program that gets 20 or 21 drops the packet and goes on waiting for its reply, for as long as
  * it would have waited without it: whoever can send to it can send such packets.
  */

@@ -49,15 +49,18 @@ impl<'r> LeaseReply<'r> {
 /// [`Unassigned`](ReplyKind::Unassigned) where it has a record that is not active, and
 /// [`Unknown`](ReplyKind::Unknown) where it has none. By client it is Active where the client has
 /// an active lease, about the one with the latest last transaction (of several the lowest address);
-/// else Unknown. `include/jespurla.h` says what stands in the reply, option by option.
+/// else Unknown. `include/jespurla.h` says what stands in the reply, option by option. Where the
+/// query has a request list, option 55 (RFC 2132), the seconds left (51), the client id (61), the
+/// relay information (82) and the seconds since the last transaction (91) are sent only if it lists
+/// them.
 ///
 /// # Errors
 ///
 /// In the order in which they are tried: [`Refusal::LeaseTable`] the table breaks its form;
 /// [`Refusal::LeaseReplyRoom`] `reply` too short; then, of the packet, [`Refusal::Packet`],
-/// [`Refusal::Op`], [`Refusal::Options`], [`Refusal::MessageType`], [`Refusal::Giaddr`],
-/// [`Refusal::Keys`] and [`Refusal::KeyLength`]. A server that gets one of those of the packet
-/// drops it and sends nothing.
+/// [`Refusal::Op`], [`Refusal::Options`], which is also for a request list that is empty or there
+/// twice, [`Refusal::MessageType`], [`Refusal::Giaddr`], [`Refusal::Keys`] and
+/// [`Refusal::KeyLength`]. A server that gets one of those of the packet drops it and sends nothing.
 ///
 /// # Examples
 ///

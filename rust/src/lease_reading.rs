@@ -58,14 +58,15 @@ impl LeaseReading {
         (!address.is_empty()).then_some((self.0.htype, address))
     }
 
-    /// How long an active lease has still to run; `None` in any other reply.
+    /// How long an active lease has still to run; `None` where the server left option 51 out, and in
+    /// any other reply.
     pub fn left(&self) -> Option<TimeLeft> {
         (self.0.has_left != 0).then(|| TimeLeft::from_raw(self.0.left))
     }
 
     /// How long ago the last transaction of an active lease was, counted from when the server wrote
-    /// the reply; `None` in any other reply. It always has an end: all ones are that many seconds,
-    /// or more.
+    /// the reply; `None` where the server left option 91 out, and in any other reply. It always has
+    /// an end: all ones are that many seconds, or more.
     pub fn since(&self) -> Option<Span> {
         (self.0.has_since != 0).then_some(Span(self.0.since.0))
     }
@@ -104,7 +105,9 @@ impl fmt::Debug for Listed<'_> {
 ///
 /// `xid` is that of the query, and `reply` the packet. Every reply that
 /// [`lease_query`](crate::lease_query()) writes is read back with the values that it was written
-/// from; `include/jespurla.h` says which others are sound, option by option.
+/// from. That of an active lease lacks a time where the query had a request list, option 55, that
+/// does not list it; the queries of this crate have none. `include/jespurla.h` says which other
+/// replies are sound, option by option.
 ///
 /// # Errors
 ///

@@ -79,6 +79,45 @@ fn the_seconds_left_stand_in_a_reply() {
     assert_eq!(left, Span(60));
 }
 
+/// A query by the client id "oboe" with a request list.
+fn listing(list: &[u8]) -> Vec<u8> {
+    let mut query = packet(b"\x35\x01\x0a\x37");
+    query.push(list.len() as u8);
+    query.extend(list);
+    query.extend(b"\x3d\x04oboe\xff");
+    query
+}
+
+/// The codes of a reply's options, the end option last.
+fn codes(reply: &[u8]) -> Vec<u8> {
+    let (mut found, mut place) = (vec![], 240);
+    while reply[place] != 255 {
+        found.push(reply[place]);
+        place += 2 + usize::from(reply[place + 1]);
+    }
+    found.push(255);
+    found
+}
+
+#[test]
+fn a_reply_has_what_the_query_lists() {
+    let relayed = |number| oboe(number).with_relay_information(b"r");
+    let one = [relayed(7).expect("one octet")];
+    let two = [one[0], relayed(8).expect("one octet")];
+    let sent = |table: &[Lease], query: &[u8]| codes(&ask(table, query).expect("a sound query").1);
+    assert_eq!(sent(&one, &by_client()), [53, 54, 51, 61, 82, 91, 255]);
+    for code in [51, 61, 82, 91] {
+        assert_eq!(sent(&one, &listing(&[code])), [53, 54, code, 255]);
+        assert_eq!(sent(&two, &listing(&[code])), [53, 54, code, 92, 255]);
+    }
+    assert_eq!(sent(&two, &listing(&[92, 54, 1])), [53, 54, 92, 255]);
+    assert_eq!(sent(&one, &listing(&[91, 51, 91])), [53, 54, 51, 91, 255]);
+    assert_eq!(sent(&[oboe(7)], &listing(&[82, 61])), [53, 54, 61, 255]);
+    assert_eq!(sent(&[], &listing(&[51, 61, 82, 91])), [53, 54, 255]);
+    let every: Vec<u8> = (1..=255).collect();
+    assert_eq!(ask(&two, &listing(&every)), ask(&two, &by_client()));
+}
+
 #[test]
 fn tables_and_buffers_are_refused() {
     let refused = |table: &[Lease]| kind(table, &by_client()) == Err(Refusal::LeaseTable);
@@ -107,6 +146,9 @@ fn packets_are_refused() {
     assert_eq!(changed(239, 0), Refusal::Packet);
     assert_eq!(changed(0, 2), Refusal::Op);
     assert_eq!(changed(249, 0), Refusal::Options);
+    assert_eq!(refused(&listing(&[])), Refusal::Options);
+    let twice = b"\x35\x01\x0a\x37\x01\x33\x37\x01\x33\x3d\x04oboe\xff";
+    assert_eq!(refused(&packet(twice)), Refusal::Options);
     assert_eq!(changed(242, 11), Refusal::MessageType);
     assert_eq!(changed(24, 0), Refusal::Giaddr);
     assert_eq!(changed(12, 10), Refusal::Keys);

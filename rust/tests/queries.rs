@@ -231,10 +231,14 @@ fn options_are_required_where_the_box_sends_them() {
     let sound = reply();
     let codes = [KIND, SERVER_ID, LEFT, CLIENT_ID, SINCE, ADDRESSES].map(|place| sound[place]);
     assert_eq!(codes, [53, 54, 51, 61, 91, 92]);
-    for place in [KIND, SERVER_ID, LEFT, SINCE] {
+    for place in [KIND, SERVER_ID] {
         assert_eq!(changed(place, 200), Err(Refusal::Reply));
     }
-    assert!(changed(CLIENT_ID, 200).is_ok());
+    let times = |place| changed(place, 200).map(|told| (told.left(), told.since()));
+    let (left, since) = (Some(TimeLeft::WithoutEnd), Some(Span(20)));
+    assert_eq!(times(LEFT), Ok((None, since)));
+    assert_eq!(times(SINCE), Ok((left, None)));
+    assert_eq!(times(CLIENT_ID), Ok((left, since)));
     let fewer = changed(ADDRESSES, 200).expect("option 92 may be absent");
     assert_eq!(fewer.addresses().len(), 0);
     assert_eq!(fewer.address(), address(9));
@@ -260,6 +264,36 @@ fn options_are_refused_where_they_are_repeated() {
     }
 }
 
+/// What is read of the reply to a query by the client id "pipe7" with a request list.
+fn by_list(list: &[u8]) -> LeaseReading {
+    let mut query = buffer();
+    let full = query_by_client_id(XID, DESK, b"pipe7", &mut query).expect("a sound key");
+    let mut listed = full[..full.len() - 1].to_vec();
+    listed.extend([55, list.len() as u8]);
+    listed.extend(list);
+    listed.push(255);
+    read(&listed)
+}
+
+#[test]
+fn times_are_read_where_they_were_listed() {
+    let (left, since) = (Some(TimeLeft::WithoutEnd), Some(Span(20)));
+    let times = |list| {
+        let told = by_list(list);
+        assert_eq!(
+            (told.kind(), told.address()),
+            (ReplyKind::Active, address(9))
+        );
+        assert_eq!(told.hardware(), Some((1, &HARDWARE[..])));
+        assert_eq!(told.addresses().len(), 2);
+        (told.left(), told.since())
+    };
+    assert_eq!(times(&[51]), (left, None));
+    assert_eq!(times(&[91, 61]), (None, since));
+    assert_eq!(times(&[91, 82, 61, 51, 51]), (left, since));
+    assert_eq!(times(&[1, 3]), (None, None));
+}
+
 /// A reply of a kind with the options that it must have, in another order, and further ones.
 fn with(kind: u8, further: &[u8]) -> Result<LeaseReading, Refusal> {
     let mut reply = vec![0; 240];
@@ -282,14 +316,28 @@ fn lengths_that_the_box_never_gives_are_refused() {
         with(13, &further)
     };
     let sound = |code, length| active(code, length).is_ok();
-    assert!(with(13, times).is_ok());
+    assert!(with(13, times).is_ok() && with(13, b"").is_ok());
     assert!(sound(61, 2) && sound(61, 64) && !sound(61, 1) && !sound(61, 65));
     assert!(sound(82, 1) && sound(82, 64) && !sound(82, 0) && !sound(82, 65));
     assert!(sound(92, 8) && sound(92, 252) && !sound(92, 4) && !sound(92, 255));
     assert!(!sound(92, 10) && !sound(92, 0));
     assert_eq!(active(92, 252).map(|told| told.addresses().len()), Ok(63));
-    let other_lengths = b"\x5b\x03\x00\x00\x00\x33\x05\x00\x00\x00\x02\x01";
-    assert_eq!(with(13, other_lengths), Err(Refusal::Reply));
+    let other_lengths: [&[u8]; 4] = [
+        b"\x5b\x03\x00\x00\x00",
+        b"\x33\x05\x00\x00\x00\x02\x01",
+        b"\x5b\x00",
+        b"\x33\x00",
+    ];
+    for time in other_lengths {
+        assert_eq!(with(13, time), Err(Refusal::Reply));
+    }
+}
+
+#[test]
+fn a_request_list_in_a_reply_is_not_looked_at() {
+    let told = with(13, b"\x37\x00\x33\x04\x00\x00\x00\x02\x37\x01\x5b").expect("a sound reply");
+    assert_eq!(told.left(), Some(TimeLeft::For(Span(2))));
+    assert_eq!(told.since(), None);
 }
 
 #[test]
