@@ -81,6 +81,10 @@ uint8_t some_family(void);
 uint8_t some_policy(void);
 jespurla_moment some_moment(void);
 
+/* options.c: the first option of a code in a packet whose options are sound, from its length octet
+ * on; null where there is none. */
+const uint8_t *find_option(const uint8_t *packet, uint8_t code);
+
 /* letters.c: names as they are compared, with capital letters folded, and how a zone spells them.
  * The letters among the octets, each in either form. */
 void mix_letters(uint8_t *octets, size_t length);

@@ -69,16 +69,33 @@ static size_t put_key(uint8_t *query, size_t length)
     return length;
 }
 
+/* A request list, seldom empty, of codes that it chooses from and of others. */
+static size_t put_list(uint8_t *query, size_t length)
+{
+    static const uint8_t codes[] = { 51, 61, 82, 91, 51, 61, 82, 91, 1, 53, 54, 92 };
+    size_t size = one_in(32) ? 0 : 1 + random_below(one_in(16) ? 255 : 5);
+    query[length++] = 55;
+    query[length++] = (uint8_t)size;
+    while (size-- > 0)
+        query[length++] = codes[random_below(sizeof codes)];
+    return length;
+}
+
+/* A list ahead of the key or behind it, at times both, which makes two. */
 static size_t some_query(uint8_t *query)
 {
     size_t length = start_query(query);
-    while (one_in(2) && length < 1200) {
+    while (one_in(2) && length < 800) {
         size_t size = random_below(one_in(8) ? 256 : 8);
         query[length++] = (uint8_t)(100 + random_below(8));
         query[length++] = (uint8_t)size;
         length += size;
     }
+    if (one_in(3))
+        length = put_list(query, length);
     length = put_key(query, length);
+    if (one_in(8))
+        length = put_list(query, length);
     query[length++] = 255;
     if (one_in(8))
         length += random_below(PACKET_ROOM - length);
@@ -93,6 +110,22 @@ static size_t some_query(uint8_t *query)
     return length;
 }
 
+/* Of the four options that a list chooses from, the reply of an active lease has none that is not
+ * listed, and both times if they are; any other reply has none. */
+static void check_listed(const uint8_t *query, const uint8_t *reply, uint32_t kind)
+{
+    static const uint8_t codes[] = { 51, 61, 82, 91 };
+    const uint8_t *list = find_option(query, 55);
+    for (size_t i = 0; i < sizeof codes; i++) {
+        bool may_be = kind == JESPURLA_LEASEACTIVE &&
+                      (list == NULL || memchr(list + 1, codes[i], list[0]) != NULL);
+        bool is_sent = find_option(reply, codes[i]) != NULL;
+        bool is_time = codes[i] == 51 || codes[i] == 91;
+        must(may_be || !is_sent, "an option that is not listed, or of no active lease");
+        must(is_sent || !may_be || !is_time, "a time left out");
+    }
+}
+
 /* A query over these records, and what it must not touch. */
 static jespurla_lease_answer ask(jespurla_moment clock, const jespurla_lease *records, size_t count)
 {
@@ -102,16 +135,20 @@ static jespurla_lease_answer ask(jespurla_moment clock, const jespurla_lease *re
     size_t reply_length =
         one_in(16) ? random_below(800) : JESPURLA_LEASE_REPLY_MIN + random_below(4);
     jespurla_lease_answer answer;
+    uint8_t *lent;
 
     random_fill(reply, reply_length);
+    lent = lend(REPLY, reply, reply_length);
     answer = jespurla_lease_query(clock, records, count, (uint32_t)random_next(),
                                   lend_to_read(QUERY, query, query_length), query_length,
-                                  lend(REPLY, reply, reply_length), reply_length);
+                                  lent, reply_length);
     tally_count(LEASE_QUERY, answer.refusal, answer.kind, listed);
-    if (answer.refusal == 0)
+    if (answer.refusal == 0) {
         must(answer.kind >= 11 && answer.kind <= 13 && answer.length >= 250, "no such reply");
-    else
+        check_listed(query, lent, answer.kind);
+    } else {
         must(answer.kind == 0 && answer.length == 0, "a reply beside a refusal");
+    }
     lend_check(QUERY, 0);
     lend_check(REPLY, answer.length);
     return answer;

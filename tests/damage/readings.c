@@ -3,7 +3,7 @@
 
 #include <string.h>
 
-#define PACKET_ROOM 2600 /* enough for nine options of any length */
+#define PACKET_ROOM 2900 /* enough for ten options of any length */
 
 /* The last reply to a query that was written, and the xid of that query. */
 static uint8_t kept[JESPURLA_LEASE_REPLY_MIN];
@@ -14,6 +14,8 @@ void keep_reply(uint32_t xid, const uint8_t *query, size_t length)
 {
     jespurla_lease_answer answer = reply_to(query, length, kept);
     must(answer.refusal == 0, "a query that was written is refused");
+    must(answer.kind != JESPURLA_LEASEACTIVE || (find_option(kept, 51) && find_option(kept, 91)),
+         "a time left out, though the query has no list");
     kept_length = answer.length;
     kept_xid = xid;
 }
@@ -22,8 +24,8 @@ void keep_reply(uint32_t xid, const uint8_t *query, size_t length)
 static size_t put_option(uint8_t *reply, size_t at, uint8_t code)
 {
     static const uint8_t lengths[][4] = {
-        { 53, 1, 1, 1 },  { 54, 4, 4, 4 },  { 51, 4, 4, 4 },    { 91, 4, 4, 4 },
-        { 61, 2, 9, 64 }, { 82, 1, 9, 64 }, { 92, 8, 20, 252 }, { 100, 0, 3, 30 },
+        { 53, 1, 1, 1 },  { 54, 4, 4, 4 },    { 51, 4, 4, 4 },   { 91, 4, 4, 4 },  { 61, 2, 9, 64 },
+        { 82, 1, 9, 64 }, { 92, 8, 20, 252 }, { 100, 0, 3, 30 }, { 55, 0, 3, 30 },
     };
     size_t row = 0, length;
     while (lengths[row][0] != code)
@@ -48,15 +50,16 @@ static void start_reply(uint32_t xid, uint8_t *reply)
     memcpy(reply + 236, cookie, sizeof cookie);
 }
 
-/* A reply with options in another order, some of them missing or twice. Answers its length. */
+/* A reply with options in another order, some of them missing or twice, the first two seldom.
+ * Answers its length. */
 static size_t some_reply(uint32_t xid, uint8_t *reply)
 {
-    static const uint8_t codes[] = { 53, 54, 51, 91, 61, 82, 92, 100 };
+    static const uint8_t codes[] = { 53, 54, 51, 91, 61, 82, 92, 100, 55 };
     size_t at = 240, first = random_below(sizeof codes);
     start_reply(xid, reply);
     for (size_t i = 0; i < sizeof codes; i++) {
         size_t next = (first + i) % sizeof codes;
-        if (!one_in(next < 4 ? 64 : 3))
+        if (!one_in(next < 2 ? 64 : 3))
             at = put_option(reply, at, codes[next]);
     }
     if (one_in(32))
@@ -65,19 +68,27 @@ static size_t some_reply(uint32_t xid, uint8_t *reply)
     return at;
 }
 
+/* A time is there exactly where the reply is of an active lease and has its option. */
+static void check_times(const jespurla_lease_reading *told, const uint8_t *reply)
+{
+    bool is_active = told->kind == JESPURLA_LEASEACTIVE;
+
+    must(told->has_left == (is_active && find_option(reply, 51)), "51 told wrong");
+    must(told->has_since == (is_active && find_option(reply, 91)), "91 told wrong");
+    must(told->has_left || told->left.seconds == 0, "seconds left that are absent");
+    must(told->has_since || told->since.seconds == 0, "seconds since that are absent");
+}
+
 /* What every answer has, refused or not. */
 static void check_reading(const jespurla_lease_reading *told)
 {
     static const jespurla_lease_reading zeros;
     const size_t rest = offsetof(jespurla_lease_reading, hlen) + 1 - sizeof told->refusal;
-    bool is_active = told->kind == JESPURLA_LEASEACTIVE;
 
     if (told->refusal != 0)
         must(memcmp((const uint8_t *)told + sizeof told->refusal, &zeros, rest) == 0,
              "a number beside a refusal");
     must(told->refusal != 0 || (told->kind >= 11 && told->kind <= 13), "no such kind");
-    must(told->has_left == is_active && told->has_since == is_active, "a time too many, or none");
-    must(is_active || (told->left.seconds == 0 && told->since.seconds == 0), "a time of none");
     must(told->hlen <= JESPURLA_HARDWARE_MAX, "a hardware address that is too long");
     must(told->count <= JESPURLA_REPLY_ADDRESSES_MAX && told->count != 1, "no such count");
     must(memcmp(told->addresses + told->count, zeros.addresses,
@@ -94,6 +105,7 @@ static uint32_t read_reply(uint32_t xid, const uint8_t *reply, size_t length)
 
     tally_count(LEASE_REPLY_READ, told.refusal, told.kind, listed);
     check_reading(&told);
+    check_times(&told, reply);
     lend_check(REPLY, 0);
     return told.refusal;
 }
