@@ -42,6 +42,8 @@ void show_lease_queries(void)
     ask(1000, "query-by-client-id.bin", "what has client id 6f626f65?");
     ask(1000, "query-cut.bin", "the end option is cut off");
     ask(1000, "query-two-keys.bin", "two keys at once");
+    ask(1000, "query-listing.bin", "client id 6f626f65 once more, options 51 and 91 listed");
+    ask(1000, "query-listing-nothing.bin", "the list is empty");
     ask(1500, "query-by-address-again.bin", "who has 10.0.0.8 at its very expiry?");
     ask(1500, "query-by-client-id-again.bin", "what has client id 6f626f65 at its lease's expiry?");
 }

@@ -43,6 +43,16 @@ static query by_client_id(const char *id)
     return q;
 }
 
+/* The query with a request list, option 55, in place of its end: of the options that a list chooses
+ * from the asker wants this one alone. The library writes no list, and the box then sends all. */
+static query listing(query q, uint8_t code)
+{
+    const uint8_t list[] = { 55, 1, code, 255 };
+    memcpy(q.octets + q.answer.length - 1, list, sizeof list);
+    q.answer.length += sizeof list - 1;
+    return q;
+}
+
 /* The box takes every query that the library wrote. */
 static reply answer_of(const query *q)
 {
@@ -58,7 +68,8 @@ static reply answer_of(const query *q)
     return r;
 }
 
-/* Both are spans, counted from when the box wrote the reply. Only an active lease has them. */
+/* Both are spans, counted from when the box wrote the reply. Only an active lease has them, and each
+ * may be absent: the box leaves out what a query with a list does not list. */
 static void print_times(const jespurla_lease_reading *told)
 {
     if (told->has_left && told->left.seconds == UINT32_MAX)
@@ -152,6 +163,7 @@ void show_written_queries(void)
     ask("By address 10.0.0.10, which is free", by_address(ADDRESS(10)));
     ask("By hardware 02:00:00:00:00:07", by_hardware(hardware, sizeof hardware));
     ask("By client id, \"oboe\"", by_client_id("oboe"));
+    ask("By client id, \"oboe\", option 91 listed", listing(by_client_id("oboe"), 91));
     ask("By client id, one of 65 octets", by_client_id(id));
     ask("By client id, one of 1 octet", by_client_id("o"));
     ask("By a hardware address of no octets", by_hardware(hardware, 0));
