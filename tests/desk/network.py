@@ -11,10 +11,17 @@ import sys
 import threading
 import time
 
+from packets import options
 from programs import Programs
 
 NO_REPLY = "no reply within a second"
 HERE = "127.0.0.1"
+
+# What the desk prints about 10.0.0.8.
+ASKED = "address 10.0.0.8\n"
+HOLDER = "  10.0.0.8 is held by hardware 02:00:00:00:00:08\n"
+HEARD = "  last heard of 50 s ago\n"
+HELD = "  held for another 8 min 20 s\n"
 
 
 def opened():
@@ -70,12 +77,16 @@ def keys_refused(programs):
     assert (status, out.count("refused 19"), err) == (1, len(keys), ""), (status, out, err)
 
 
-def sound_query():
-    """A query by the address 10.0.0.8."""
-    query = bytearray(240)
+def sound_query(further=b""):
+    """A query by the address 10.0.0.8, with further options."""
+    query = bytearray(236)
     query[0], query[12:16], query[24] = 1, bytes([10, 0, 0, 8]), 127
-    query[236:] = bytes([99, 130, 83, 99, 53, 1, 10, 255])
-    return bytes(query)
+    return bytes(query) + bytes([99, 130, 83, 99, 53, 1, 10]) + further + b"\xff"
+
+
+def request_list(*codes):
+    """Option 55."""
+    return bytes([55, len(codes), *codes])
 
 
 def packets_that_are_none(programs):
@@ -96,6 +107,24 @@ def packets_that_are_none(programs):
     assert "a packet of 1501 octets is dropped: refused 1," in box.said
 
 
+def request_lists(programs):
+    """Of 51, 61, 82 and 91 the box sends what a query lists, and all to one that has no list. A list
+    that is empty, or there twice, is dropped."""
+    sent = {b"": [51, 61, 82, 91], request_list(51): [51], request_list(91, 82): [82, 91],
+            request_list(91, 61, 82, 51, 51): [51, 61, 82, 91], request_list(1, 92): []}
+    dropped = [request_list(), request_list(51) + request_list(51)]
+    with programs.boxd() as box, opened() as sender:
+        for further, codes in sent.items():
+            sender.sendto(sound_query(further), (HERE, box.port))
+            told = [code for code, _ in options(sender.recv(2000))]
+            assert told == [53, 54, *codes, 255], (further, told)
+        for further in dropped:
+            sender.sendto(sound_query(further), (HERE, box.port))
+        status, out, _ = programs.desk(box.port, "address=10.0.0.8")
+        assert status == 0 and HEARD in out and HELD in out, (status, out)
+    assert box.said.count(" is dropped: refused 3, ") == len(dropped), box.said
+
+
 def few_descriptors(programs):
     """Many questions with room for few descriptors: each is given back."""
     def limit():
@@ -108,9 +137,9 @@ def few_descriptors(programs):
 class Replies:
     """The reply of a box, which is made to fit any query for the same."""
 
-    def __init__(self, programs):
+    def __init__(self, programs, further=b""):
         with programs.boxd() as box, opened() as asker:
-            asker.sendto(sound_query(), (HERE, box.port))
+            asker.sendto(sound_query(further), (HERE, box.port))
             self.sound = asker.recv(2000)
 
     def to(self, query):
@@ -119,6 +148,9 @@ class Replies:
     def to_another(self, query):
         other = bytes([query[4] ^ 1]) + query[5:8]
         return self.sound[:4] + other + self.sound[8:]
+
+    def send(self, port, query, desk, _):
+        port.sendto(self.to(query), desk)
 
 
 def asked(programs, answer):
@@ -143,12 +175,16 @@ def asked(programs, answer):
 
 def the_reply(programs):
     """What follows is about replies that the desk takes, were they the right ones."""
-    reply = Replies(programs)
-
-    def right(port, query, desk, _):
-        port.sendto(reply.to(query), desk)
-    status, out, _ = asked(programs, right)
+    status, out, _ = asked(programs, Replies(programs).send)
     assert status == 0 and "10.0.0.8 is held by" in out, (status, out)
+
+
+def replies_without_times(programs):
+    """The desk prints the times that are there, and no others."""
+    for code, line in [(51, HELD), (91, HEARD), (61, "")]:
+        reply = Replies(programs, request_list(code))
+        status, out, _ = asked(programs, reply.send)
+        assert (status, out) == (0, ASKED + HOLDER + line), (code, status, out)
 
 
 def patience(programs):
@@ -184,8 +220,8 @@ def replies_from_elsewhere(programs):
 
 def main():
     programs = Programs(sys.argv[1])
-    tests = [wrong_arguments, system_errors, keys_refused, packets_that_are_none, few_descriptors,
-             the_reply, patience, replies_from_elsewhere]
+    tests = [wrong_arguments, system_errors, keys_refused, packets_that_are_none, request_lists,
+             few_descriptors, the_reply, replies_without_times, patience, replies_from_elsewhere]
     for test in tests:
         test(programs)
     print(f"desk: {len(tests)} kinds of trouble are borne")

@@ -14,15 +14,17 @@ from pcap import write
 from programs import Programs
 
 HERE = "127.0.0.1"
+
+# Each question with the options of its query, the kind of the reply and the options of that. No query
+# of the desk has a request list, so the reply has all that the lease has.
 QUESTIONS = {
-    "client=oboe": [53, 61],
-    "client=" + 255 * "o": [53, 61],
-    "hardware=02:00:00:00:00:07": [53],
-    "address=10.0.0.8": [53],
-    "address=10.0.0.10": [53],
-    "address=10.0.0.99": [53],
+    "client=oboe": ([53, 61], 13, [53, 54, 51, 61, 82, 91]),
+    "client=" + 255 * "o": ([53, 61], 12, [53, 54]),
+    "hardware=02:00:00:00:00:07": ([53], 13, [53, 54, 51, 61, 91, 92]),
+    "address=10.0.0.8": ([53], 13, [53, 54, 51, 61, 82, 91]),
+    "address=10.0.0.10": ([53], 11, [53, 54]),
+    "address=10.0.0.99": ([53], 12, [53, 54]),
 }
-KINDS = [13, 12, 13, 13, 11, 12]
 
 
 class Relay:
@@ -72,23 +74,23 @@ def check_query(query, codes):
     assert dict(options(query))[53] == b"\x0a", query
 
 
-def check_reply(query, reply, kind):
-    """Op 2, the xid and the giaddr of the query, the kind, and a time in an active reply alone."""
+def check_reply(query, reply, kind, codes):
+    """Op 2, the xid and the giaddr of the query, the kind, the options in their order."""
     asked, told = fields(query), fields(reply)
     assert told["op"] == 2 and told["xid"] == asked["xid"], told
     assert told["giaddr"] == asked["giaddr"], told
+    assert [code for code, _ in options(reply)] == codes + [255], reply
     found = dict(options(reply))
     assert (found[53], len(found[54])) == (bytes([kind]), 4), found
-    assert (51 in found, 91 in found) == ((kind == 13,) * 2), found
 
 
 def main():
     passed = record(Programs(sys.argv[1]))
     xids = {fields(query)["xid"] for query, _ in passed}
     assert len(xids) == len(passed), "two queries have one xid"
-    for (query, reply), codes, kind in zip(passed, QUESTIONS.values(), KINDS):
-        check_query(query, codes)
-        check_reply(query, reply, kind)
+    for (query, reply), (asked, kind, told) in zip(passed, QUESTIONS.values()):
+        check_query(query, asked)
+        check_reply(query, reply, kind, told)
     packets = [packet for pair in passed for packet in pair]
     write(sys.argv[2], packets)
     print(len(packets))
