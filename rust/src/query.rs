@@ -10,7 +10,8 @@ use crate::{raw, Refusal};
 /// each query that awaits a reply. `giaddr` is the asker's address, to which the server sends the
 /// reply. The query goes to the front of `query`, at least
 /// [`LEASE_QUERY_MIN`](crate::limits::LEASE_QUERY_MIN) octets, of which the octets past it keep
-/// their values; what is answered is the packet to send.
+/// their values; what is answered is the packet to send. It has no request list (option 55), so
+/// that the server leaves nothing out of its reply.
 ///
 /// # Errors
 ///

@@ -227,7 +227,7 @@ const SINCE: usize = 262;
 const ADDRESSES: usize = 268;
 
 #[test]
-fn options_are_required_where_the_box_sends_them() {
+fn options_that_the_box_always_sends_are_required() {
     let sound = reply();
     let codes = [KIND, SERVER_ID, LEFT, CLIENT_ID, SINCE, ADDRESSES].map(|place| sound[place]);
     assert_eq!(codes, [53, 54, 51, 61, 91, 92]);
