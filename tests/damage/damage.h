@@ -112,8 +112,8 @@ void turn_lookups(void);
 const jespurla_lease *some_record(void);
 jespurla_lease_answer reply_to(const uint8_t *query, size_t length,
                                uint8_t reply[JESPURLA_LEASE_REPLY_MIN]);
-/* readings.c: has the box reply to a query that was written, which it must take, and keeps the
- * reply for the next turn. */
+/* readings.c: has the box reply to a query that was written, as it is or with a request list, which
+ * it must take, and keeps the reply for the next turn. */
 void keep_reply(uint32_t xid, const uint8_t *query, size_t length);
 
 /* zones.c: a zone that is sound mostly, and the refusals of what reads one. */

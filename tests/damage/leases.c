@@ -204,6 +204,10 @@ jespurla_lease_answer reply_to(const uint8_t *query, size_t length,
 {
     jespurla_moment clock = { random_below(4000) };
     size_t count = one_in(4) ? random_below(20) : JESPURLA_LEASES_MAX;
-    return jespurla_lease_query(clock, table, count, (uint32_t)random_next(), query, length,
-                                reply, JESPURLA_LEASE_REPLY_MIN);
+    jespurla_lease_answer answer =
+        jespurla_lease_query(clock, table, count, (uint32_t)random_next(), query, length,
+                             reply, JESPURLA_LEASE_REPLY_MIN);
+    if (answer.refusal == 0)
+        check_listed(query, reply, answer.kind);
+    return answer;
 }

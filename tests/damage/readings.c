@@ -4,18 +4,31 @@
 #include <string.h>
 
 #define PACKET_ROOM 2900 /* enough for ten options of any length */
+#define LISTED 4         /* octets of a request list of one code, with the end option */
 
 /* The last reply to a query that was written, and the xid of that query. */
 static uint8_t kept[JESPURLA_LEASE_REPLY_MIN];
 static size_t kept_length;
 static uint32_t kept_xid;
 
+/* Puts a request list of one code in place of a query's end; the length of the query. */
+static size_t list_one(uint8_t *query, size_t length)
+{
+    static const uint8_t codes[] = { 51, 61, 82, 91, 1 };
+    const uint8_t list[LISTED] = { 55, 1, codes[random_below(sizeof codes)], 255 };
+    memcpy(query + length - 1, list, sizeof list);
+    return length - 1 + sizeof list;
+}
+
 void keep_reply(uint32_t xid, const uint8_t *query, size_t length)
 {
-    jespurla_lease_answer answer = reply_to(query, length, kept);
+    uint8_t sent[JESPURLA_LEASE_QUERY_MIN + LISTED];
+    jespurla_lease_answer answer;
+    memcpy(sent, query, length);
+    if (one_in(2))
+        length = list_one(sent, length);
+    answer = reply_to(sent, length, kept);
     must(answer.refusal == 0, "a query that was written is refused");
-    must(answer.kind != JESPURLA_LEASEACTIVE || (find_option(kept, 51) && find_option(kept, 91)),
-         "a time left out, though the query has no list");
     kept_length = answer.length;
     kept_xid = xid;
 }
