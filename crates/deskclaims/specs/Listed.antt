@@ -1,5 +1,5 @@
--- A box sends no option that it was not asked for, and answers a desk's own query in full, said of any results that meet the promises of the
--- calls. Document 02, e).
+-- A box sends no option that it was not asked for, and answers a desk's own query in full. Document 02, e). Said of any results that meet the
+-- promises of the calls.
 use Prim.Native.Nat.{ℕ}
 use mathlib.Core.Path.{_≡_}
 use mathlib.Core.List.{[]}

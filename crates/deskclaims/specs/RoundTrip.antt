@@ -1,5 +1,5 @@
--- Every reply that a box writes is read back with the fields that it was written from, said of any results that meet the promises of the
--- two calls. Document 02, d) and e).
+-- Every reply that a box writes is read back with the fields that it was written from. Document 02, d) and e). Said of any results that meet
+-- the promises of the two calls.
 use Prim.Native.Nat.{ℕ}
 use mathlib.Core.Path.{_≡_}
 use mathlib.Core.Bool.{false, cond}

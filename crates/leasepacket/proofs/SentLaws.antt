@@ -7,7 +7,6 @@ use mathlib.Core.Option.{some}
 use native.Mathlib.Omega.{arith}
 use lib.Dec.{eqb}
 use lib.ListN.{length, length-append}
-use borrow.Author.Tests.{eq-eqb}
 use Rattle.leasepacket.specs.Options.{Opt, followed, options, values}
 use Rattle.leasepacket.specs.Layout.{option, encoded}
 use Rattle.leasepacket.specs.Grammar.{Code}

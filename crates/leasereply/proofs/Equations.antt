@@ -1,11 +1,11 @@
 -- The equations of specs/Equations.antt. Assumes nothing.
-use Prim.Native.Nat.{ℕ, _<_}
-use mathlib.Core.Path.{_≡_, refl, ap, _∙_}
+use Prim.Native.Nat.{ℕ}
+use mathlib.Core.Path.{_≡_, refl, _∙_}
 use mathlib.Core.Bool.{Bool, true, false, cond}
 use mathlib.Core.List.{List, [], _∷_, _++_, append-nil}
 use mathlib.Core.Option.{Option, none, some}
 use native.Mathlib.Omega.{arith}
-use lib.ListN.{length, take}
+use lib.ListN.{take}
 use Rattle.clock.specs.declared.Moment.{Moment}
 use Rattle.clock.specs.Clock.{secondsLeft, secondsSince}
 use Rattle.octets.specs.Number.{bigEndian}
@@ -14,9 +14,8 @@ use Rattle.lease.specs.declared.Lease.{Lease}
 use Rattle.leasepacket.specs.Layout.{option, encoded}
 use Rattle.leasepacket.specs.Requested.{requestList, requestedBy}
 use Rattle.leasepacket.specs.ReplyOptions.{held}
-use Rattle.leasepacket.specs.Reading.{requestedIn}
 use Rattle.leasepacket.proofs.SentLaws.{encoded-held}
-use Rattle.leasereply.specs.Reply.{optionsOf, ofServer, ofLease, flat, asked, aboutLease}
+use Rattle.leasereply.specs.Reply.{optionsOf, ofLease, flat, asked, aboutLease}
 use Rattle.leasereply.specs.Equations.{optional, Equations}
 use Rattle.leasereply.proofs.ReplyLaws.{other-parts, active-parts}
 

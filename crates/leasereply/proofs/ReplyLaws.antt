@@ -26,7 +26,7 @@ use Rattle.leasepacket.specs.Layout.{fixedFields, option, encoded}
 use Rattle.leasepacket.specs.Requested.{requestList, isRequested}
 use Rattle.leasepacket.specs.ReplyOptions.{inActive, inKind, held, sentBy}
 use Rattle.leasepacket.specs.Reading.{requestedIn}
-use Rattle.leasepacket.proofs.SentLaws.{encoded-both, encoded-held, held-short, sent-more, sent-none, nothing-sent}
+use Rattle.leasepacket.proofs.SentLaws.{encoded-held, held-short, sent-more, sent-none, nothing-sent}
 use Rattle.leasereply.specs.Reply.{fixed, optionsOf, ofServer, ofLease, flat, otherReply, activeReply, addressesOf, listed, asked, aboutLease, Wrote}
 
 -- ---- options that may be left out

@@ -1,6 +1,4 @@
 use mathlib.Core.Path.{sym, ap, _∙_}
-use mathlib.Core.Bool.{not}
-use lib.Dec.{eqb}
 use Rattle.leasepacket.specs.Requested.{listFits}
 use Rattle.leasepacket.proofs.OccurrenceLaws.{none-faulty, none-absent, one, more}
 use Rattle.leasepacket.proofs.QueryLaws.{part-length}
