@@ -23,7 +23,7 @@ use Rattle.leasepacket.specs.Options.{Opt, values, valuesIn}
 use Rattle.leasepacket.specs.Grammar.{Code}
 use Rattle.leasepacket.specs.Layout.{encoded}
 use Rattle.leasepacket.specs.Requested.{isRequested}
-use Rattle.leasepacket.specs.ReplyOptions.{Lengths, inEvery, inKind, sentBy}
+use Rattle.leasepacket.specs.ReplyOptions.{Lengths, inEvery, inKind, held, sentBy}
 use Rattle.leasepacket.proofs.QueryLaws.{part-length}
 use Rattle.leasepacket.proofs.SentLaws.{Codes, only, only-some, sent-codes, under, sent-values}
 use Rattle.leasereply.specs.Reply.{fixed, optionsOf, ofServer, ofLease, flat, otherReply, activeReply}
@@ -317,12 +317,23 @@ module _ (clock : Moment) (server : ℕ) (q : List ℕ) (x : Lease) (bs : List �
       ∙ ap told (tells-all q (x .htype) (x .hlen) (bigEndian 4 (x .address)) (x .chaddr) activeOptions active-sound 13 values-53
       ∙ rw (number-big-endian 4 (x .address) (f .typed .address), values-51, values-91, values-92, left-sent, since-sent, addresses-back bs (g .small)) refl)
 
-  -- what was not asked for is not there
-  lacks : (code : ℕ) → values code activeOptions ≡ sent code → isRequested q code ≡ false → valuesIn code (activeReply clock server q x bs) ≡ []
-  lacks code e r = ap (valuesIn code) active-is ∙ its-values q (x .htype) (x .hlen) (bigEndian 4 (x .address)) (x .chaddr) activeOptions active-sound code ∙ e ∙ rw r
+  -- what stands under the codes that go out only if they are listed: what was asked for, and nothing else
+  stands : (code : ℕ) → values code activeOptions ≡ sent code → valuesIn code (activeReply clock server q x bs) ≡ sent code
+  stands code e = ap (valuesIn code) active-is ∙ its-values q (x .htype) (x .hlen) (bigEndian 4 (x .address)) (x .chaddr) activeOptions active-sound code ∙ e
+
+  stands-all : (code : ℕ) → OnlyIfListed code → valuesIn code (activeReply clock server q x bs) ≡ sent code
+  stands-all code (inl e) = rw e (stands 51 values-51)
+  stands-all code (inr (inl e)) = rw e (stands 61 values-61)
+  stands-all code (inr (inr (inl e))) = rw e (stands 82 values-82)
+  stands-all code (inr (inr (inr e))) = rw e (stands 91 values-91)
 
   pub lacks-active : (code : ℕ) → OnlyIfListed code → isRequested q code ≡ false → valuesIn code (activeReply clock server q x bs) ≡ []
-  lacks-active code (inl e) r = rw e (lacks 51 values-51 (rw e at r))
-  lacks-active code (inr (inl e)) r = rw e (lacks 61 values-61 (rw e at r))
-  lacks-active code (inr (inr (inl e))) r = rw e (lacks 82 values-82 (rw e at r))
-  lacks-active code (inr (inr (inr e))) r = rw e (lacks 91 values-91 (rw e at r))
+  lacks-active code o r = stands-all code o ∙ rw r
+
+  pub has-active : (code : ℕ) → OnlyIfListed code → isRequested q code ≡ true → valuesIn code (activeReply clock server q x bs) ≡ values code (held code (said code))
+  unfolding values
+  has-active code o r = stands-all code o ∙ rw r (own (said code))
+    where
+      own : (v : List ℕ) → only v ≡ values code (held code v)
+      own [] = refl
+      own (y ∷ ys) = rw (eq-eqb code code refl)

@@ -34,9 +34,9 @@ use Rattle.deskreply.specs.Reading as read
 use Rattle.deskreply.specs.Promise.{isThere, answered}
 use Rattle.deskclaims.specs.Asks.{Address}
 use Rattle.deskclaims.specs.RoundTrip.{Typed, AllTyped, replied, ReadBack, timeFor, fromQuery, fromLease, ReadsQuery, NotListed, AbsentExactly, ReadsLease, RoundTrip}
-use Rattle.deskclaims.specs.Listed.{OnlyIfListed, SendsOnlyListed, AnsweredInFull}
+use Rattle.deskclaims.specs.Listed.{OnlyIfListed, SendsOnlyListed, InFull, AnsweredInFull}
 use Rattle.deskclaims.proofs.Asks.{asks-for-all}
-use Rattle.deskclaims.proofs.KindLaws.{AllAddress, Formed, Given, lacks-other, reads-other, reads-active, lacks-active}
+use Rattle.deskclaims.proofs.KindLaws.{AllAddress, Formed, Given, lacks-other, reads-other, reads-active, lacks-active, has-active}
 
 -- ---- what is known of the records of a table
 typed-at : (t : List Lease) → AllTyped t → (i : ℕ) → i < length t → Typed (getD t i noLease)
@@ -270,17 +270,27 @@ pub round-trip : RoundTrip
 round-trip c d a r = by-outcome c d r a (table-fits c r) (outcome c r) refl (back c a (table-fits c r) (asking (c .query)) (not-refused c r))
 
 -- ---- a desk's own query is answered in full
+module _ (c : Call) (d : ReadBack c) (r : c .result .refusal ≡ 0) (k : c .result .kind ≡ 13) (q : (code : ℕ) → isRequested (c .query) code ≡ true) where
+  in-full : (a : AllTyped (c .table)) (f : tableFits (c .table) ≡ true) (w : Outcome) → outcome c r ≡ w → Back c a f (hasKey (asking (c .query))) w → InFull c d
+  unfolding from-active
+  in-full a f (refusal n) e b = absurd b
+  in-full a f (reply kind octets) e (inl o) = absurd (not-13 (from-other c d r kind octets e (o .number) (o .are) .kind))
+    where
+      not-13 : (c .result .kind ≡ 11) ⊎ (c .result .kind ≡ 12) → ⊥
+      not-13 (inl z) = omega (arith, k, z)
+      not-13 (inr z) = omega (arith, k, z)
+  in-full a f (reply kind octets) e (inr o) =
+      let b = from-active c d r a f kind octets e o .reads in
+      record {
+        about = from-active c d r a f kind octets e o;
+        sends = λ code l. ap (valuesIn code) (replied-is c r ∙ ap written e ∙ o .are)
+            ∙ has-active (c .clock) (c .server) (c .query) (o .lease) (o .addresses) (asked-fits (c .query) (not-refused c r) .0) (o .good) (o .listed) code l (q code);
+        left = ap (λ x. x .«has_left») b ∙ rw (q 51);
+        since = ap (λ x. x .«has_since») b ∙ rw (q 91);
+      }
+
 pub answered-in-full : AnsweredInFull
 unfolding isRequested
-answered-in-full a c d t w q r k = go (round-trip c d t r)
-  where
-    all-asked : (code : ℕ) → isRequested (c .query) code ≡ true
-    all-asked code = ap (requestedBy code) (ap requestList q ∙ asks-for-all a w)
-
-    not-13 : (n : ℕ) → n ≡ 13 → (n ≡ 11) ⊎ (n ≡ 12) → ⊥
-    not-13 n e (inl f) = omega (arith, e, f)
-    not-13 n e (inr f) = omega (arith, e, f)
-
-    go : ReadsQuery c d ⊎ ReadsLease c d → (d .result .«has_left» ≡ 1) × (d .result .«has_since» ≡ 1)
-    go (inl o) = absurd (not-13 (c .result .kind) k (o .kind))
-    go (inr o) = (ap (λ x. x .«has_left») (o .reads) ∙ rw (all-asked 51), ap (λ x. x .«has_since») (o .reads) ∙ rw (all-asked 91))
+answered-in-full a c d t w e r k =
+    in-full c d r k (λ code. ap (requestedBy code) (ap requestList e ∙ asks-for-all a w)) t (table-fits c r) (outcome c r) refl
+    (back c t (table-fits c r) (asking (c .query)) (not-refused c r))

@@ -53,16 +53,16 @@ sent a = take (a .result .length) (a .after)
 abbrev pub AsksForItsKey : Type 0
 AsksForItsKey = (a : Asking) → a .result .refusal ≡ 0 → asking (sent a) ≡ keyOf (a .handed)
 
--- It has no list of options, so that the reply to it leaves none out (document 02, e)).
-abbrev pub AsksForAll : Type 0
-AsksForAll = (a : Asking) → a .result .refusal ≡ 0 → requestList (sent a) ≡ none
-
 -- So the box's call refuses it only for what is its own: its clock (15), its table (9), its buffer (8).
 abbrev pub Own : ℕ → Type 0
 Own n = (n ≡ 15) ⊎ ((n ≡ 9) ⊎ (n ≡ 8))
 
 abbrev pub TakenByTheBox : Type 0
 TakenByTheBox = (a : Asking) (c : Call) → a .result .refusal ≡ 0 → c .query ≡ sent a → (c .result .refusal ≡ 0) ⊎ Own (c .result .refusal)
+
+-- A query that was written has no list of options, so that the reply to it leaves none out (document 02, e)).
+abbrev pub AsksForAll : Type 0
+AsksForAll = (a : Asking) → a .result .refusal ≡ 0 → requestList (sent a) ≡ none
 
 -- More octets than a packet can carry: of a client id above 255, since one octet tells its length.
 abbrev pub TooLong : Handed → Type 0

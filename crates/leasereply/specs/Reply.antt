@@ -1,4 +1,4 @@
--- The octets of a reply. Document 01, "Lease table and queries".
+-- The octets of a reply. Document 01, "Lease table and queries"; document 02, e).
 use Prim.Native.Nat.{ℕ, _≤_}
 use mathlib.Core.Path.{_≡_}
 use mathlib.Core.Bool.{Bool, cond, _||_}
