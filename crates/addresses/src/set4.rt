@@ -8,14 +8,14 @@ use crate::count;
 use octets::compare;
 
 #[repr(C)]
-#[derive(Drop)]
+#[derive(Clone, Copy)]
 pub struct Addr4 {
     pub octets: [u8; 4],
 }
 
 // Items from `count` on are ignored.
 #[repr(C)]
-#[derive(Drop)]
+#[derive(Clone, Copy)]
 pub struct Set4 {
     pub items: [Addr4; 4],
     pub count: u8,

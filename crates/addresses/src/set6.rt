@@ -8,14 +8,14 @@ use crate::count;
 use octets::compare;
 
 #[repr(C)]
-#[derive(Drop)]
+#[derive(Clone, Copy)]
 pub struct Addr6 {
     pub octets: [u8; 16],
 }
 
 // Items from `count` on are ignored.
 #[repr(C)]
-#[derive(Drop)]
+#[derive(Clone, Copy)]
 pub struct Set6 {
     pub items: [Addr6; 4],
     pub count: u8,

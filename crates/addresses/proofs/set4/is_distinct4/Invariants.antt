@@ -1,0 +1,10 @@
+use Rattle.std.proofs.Common.{◌-◌}
+use Rattle.addresses.specs.Addresses.{octets4, counted4}
+use Rattle.addresses.proofs.CountedLaws.{Pairs}
+use Rattle.addresses.proofs.set4.is_distinct4.Given as goal
+
+abbrev pub invariant-loop-i : goal.invariant-loop-i
+invariant-loop-i l = Pairs octets4 (counted4 l.s) l.n l.i
+
+abbrev pub decreases-loop-i : goal.decreases-loop-i
+decreases-loop-i l = l.n - l.i

@@ -1,0 +1,10 @@
+use Rattle.std.proofs.Common.{◌-◌}
+use Rattle.addresses.specs.Addresses.{octets6, counted6}
+use Rattle.addresses.proofs.CountedLaws.{Search}
+use Rattle.addresses.proofs.set6.has6_from.Given as goal
+
+abbrev pub invariant-loop-i : goal.invariant-loop-i
+invariant-loop-i l = Search octets6 l.a.octets l.from (counted6 l.s) l.n l.i
+
+abbrev pub decreases-loop-i : goal.decreases-loop-i
+decreases-loop-i l = l.n - l.i
