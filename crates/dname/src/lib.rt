@@ -1,4 +1,7 @@
 // Domain names as they stand in a field of octets: labels, each under its length, to an end.
+
+#![tactic(auto)]
+
 ghost use Rattle.std.specs.Prelude.{◌≡◌, ◌≤◌, length, drop};
 ghost use Rattle.dname.specs.Name.{labels_of, shape_of, same_name};
 ghost use Rattle.dname.specs.Reading.{Passed, PassedOne, ending, code};
