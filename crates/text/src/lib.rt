@@ -1,6 +1,8 @@
 // Numbers and octets as text, in ASCII, written into lent buffers. Each writer is one of
 // octets::write's kind: it answers the place behind what it wrote; where not all of it fits it writes
 // nothing and answers the place it was given.
+#![tactic(auto)]
+
 pub mod decimal;
 pub mod hex;
 
@@ -8,6 +10,7 @@ ghost use Rattle.std.specs.Prelude.{◌≡◌, ◌<◌};
 ghost use Rattle.text.specs.Text.{digit};
 
 // The character of a digit below 16, in lower case.
+#[tactic(auto, unfolding(crate::specs::Text::digit))]
 pub(crate) fn character(d: u8) -> u8
     requires { d < 16 }
     ensures { result ≡ digit d }
