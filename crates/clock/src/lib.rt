@@ -1,15 +1,18 @@
 // Moments on the clock and spans of seconds, kept apart by their types.
+
+#![tactic(auto)]
+
 ghost use Rattle.std.specs.Prelude.{◌≡◌, ◌-◌, min};
 ghost use Rattle.clock.specs.Clock.{span, is_moment, is_expiry, is_past, is_ahead, moment_after, expiry_after, seconds_left, seconds_since};
 
 // A moment on the clock, in seconds: 0 to LATEST. As an expiry it may also be NEVER.
 #[repr(C)]
-#[derive(Drop)]
+#[derive(Clone, Copy)]
 pub struct Moment(pub u64);
 
 // A span of seconds.
 #[repr(C)]
-#[derive(Drop)]
+#[derive(Clone, Copy)]
 pub struct Span(pub u32);
 
 // The latest moment, 2^48 - 1.
@@ -29,6 +32,7 @@ pub fn is_moment(m: Moment) -> bool
 }
 
 // Whether this is a moment on the clock or never.
+#[tactic(auto, unfolding(crate::specs::Clock::is_expiry))]
 pub fn is_expiry(m: Moment) -> bool
     ensures { result ≡ is_expiry m }
 {
@@ -46,6 +50,7 @@ pub fn is_past(end: Moment, clock: Moment) -> bool
 }
 
 // Whether an expiry is never or later than now.
+#[tactic(auto, unfolding(crate::specs::Clock::is_ahead))]
 pub fn is_ahead(expiry: Moment, clock: Moment) -> bool
     ensures { result ≡ is_ahead expiry clock }
 {
@@ -56,6 +61,7 @@ pub fn is_ahead(expiry: Moment, clock: Moment) -> bool
 }
 
 // The moment a span from now: at most LATEST.
+#[tactic(auto, unfolding(crate::specs::Clock::moment_after))]
 pub fn moment_after(clock: Moment, after: Span) -> Moment
     ensures { result ≡ moment_after clock after }
 {
@@ -68,6 +74,7 @@ pub fn moment_after(clock: Moment, after: Span) -> Moment
 }
 
 // The expiry of a lifetime that starts now: at most LATEST, and never for a lifetime without end.
+#[tactic(auto, unfolding(crate::specs::Clock::expiry_after))]
 pub fn expiry_after(clock: Moment, lifetime: Span) -> Moment
     ensures { result ≡ expiry_after clock lifetime }
 {
@@ -96,6 +103,7 @@ fn capped(seconds: u64, limit: u32) -> Span
 }
 
 // The seconds from now to an expiry: 4,294,967,294 at most, and without end for never.
+#[tactic(auto, unfolding(crate::specs::Clock::seconds_left))]
 pub fn seconds_left(expiry: Moment, clock: Moment) -> Span
     ensures { result ≡ seconds_left expiry clock }
 {
@@ -106,6 +114,7 @@ pub fn seconds_left(expiry: Moment, clock: Moment) -> Span
 }
 
 // The seconds from a moment to now: 4,294,967,295 at most, and 0 where the moment is later.
+#[tactic(auto, unfolding(crate::specs::Clock::seconds_since))]
 pub fn seconds_since(last: Moment, clock: Moment) -> Span
     ensures { result ≡ seconds_since last clock }
 {
