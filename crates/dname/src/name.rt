@@ -6,7 +6,7 @@ use crate::Shape;
 
 // Octets from `len` on are ignored.
 #[repr(C)]
-#[derive(Drop)]
+#[derive(Clone, Copy)]
 pub struct Name {
     pub octets: [u8; 255],
     pub len: u8,
