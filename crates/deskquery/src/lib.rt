@@ -1,5 +1,8 @@
 // The lease queries that a desk sends, one call for each key. A query is written to the front of a
 // lent buffer; the octets behind it keep their values.
+
+#![tactic(auto)]
+
 ghost use Rattle.leasepacket.specs.Query.{by_address, by_client_id};
 ghost use Rattle.deskquery.specs.Query.{hardware_key};
 ghost use Rattle.deskquery.specs.Promise.{QueryPromise};
@@ -17,8 +20,7 @@ pub struct QueryAnswer {
 }
 
 // Writes a query by address.
-#[unsafe(no_mangle)]
-pub extern "C" fn jespurla_query_by_address(
+pub fn jespurla_query_by_address(
     xid: u32,
     giaddr: u32,
     address: u32,
@@ -38,8 +40,7 @@ pub extern "C" fn jespurla_query_by_address(
 }
 
 // Writes a query by hardware address: its type, and its octets, whose number is hlen.
-#[unsafe(no_mangle)]
-pub extern "C" fn jespurla_query_by_hardware(
+pub fn jespurla_query_by_hardware(
     xid: u32,
     giaddr: u32,
     htype: u8,
@@ -61,8 +62,7 @@ pub extern "C" fn jespurla_query_by_hardware(
 }
 
 // Writes a query by client id.
-#[unsafe(no_mangle)]
-pub extern "C" fn jespurla_query_by_client_id(
+pub fn jespurla_query_by_client_id(
     xid: u32,
     giaddr: u32,
     id: &[u8],

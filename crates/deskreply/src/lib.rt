@@ -1,4 +1,7 @@
 // A reply to a lease query, as a desk reads it.
+
+#![tactic(auto)]
+
 ghost use Rattle.deskreply.specs.Promise.{ReadPromise};
 
 use clock::Span;
@@ -35,8 +38,7 @@ pub struct LeaseReading {
 }
 
 // Reads a reply to the query that had an xid.
-#[unsafe(no_mangle)]
-pub extern "C" fn jespurla_lease_reply_read(xid: u32, reply: &[u8]) -> LeaseReading
+pub fn jespurla_lease_reply_read(xid: u32, reply: &[u8]) -> LeaseReading
     ensures { ReadPromise xid reply.now result }
 {
     if !form::is_reply(reply) {

@@ -38,6 +38,7 @@ fn noted(seen: Occurrence, at: usize, len: usize) -> Occurrence
 }
 
 // What stands at a place.
+#[tactic(auto, unfolding(crate::specs::Places::step_of))]
 fn option_at(s: &[u8], code: u8, at: usize, seen: Occurrence) -> Step
     ensures { result ≡ step_of s.now code at seen }
 {
