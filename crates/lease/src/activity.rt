@@ -9,6 +9,7 @@ use clock::Moment;
 const LEASED: u8 = 1;
 
 // Whether a lease is active at a moment.
+#[tactic(auto, unfolding(crate::specs::Lease::active_at))]
 pub fn is_active(x: Lease, clock: Moment) -> bool
     ensures { result ≡ active_at clock x }
 {

@@ -35,6 +35,7 @@ fn is_zero_from_6(s: [u8; 16]) -> bool
 }
 
 // A hardware address has at most 16 octets, with zeros behind them; one of none has type 0.
+#[tactic(auto, unfolding(crate::specs::Lease::hardware_fits))]
 fn does_hardware_fit(htype: u8, hlen: u8, chaddr: [u8; 16]) -> bool
     ensures { result ≡ hardware_fits htype hlen chaddr }
 {
@@ -55,6 +56,7 @@ fn does_hardware_fit(htype: u8, hlen: u8, chaddr: [u8; 16]) -> bool
 }
 
 // A client id has no octets or 2 to 64, relay information at most 64.
+#[tactic(auto, unfolding(crate::specs::Lease::lengths_fit))]
 fn do_lengths_fit(idlen: u8, relaylen: u8) -> bool
     ensures { result ≡ lengths_fit idlen relaylen }
 {
@@ -68,6 +70,7 @@ fn do_lengths_fit(idlen: u8, relaylen: u8) -> bool
 }
 
 // The last transaction was at a moment, and the expiry is a moment or never.
+#[tactic(auto, unfolding(crate::specs::Lease::moments_fit))]
 fn do_moments_fit(last: Moment, expiry: Moment) -> bool
     ensures { result ≡ moments_fit last expiry }
 {
@@ -78,6 +81,7 @@ fn do_moments_fit(last: Moment, expiry: Moment) -> bool
 }
 
 // Whether a record has the form of a lease.
+#[tactic(auto, unfolding(crate::specs::Lease::well_formed))]
 pub fn is_well_formed(x: Lease) -> bool
     ensures { result ≡ well_formed x }
 {

@@ -58,6 +58,7 @@ fn do_match_64(n: u8, a: [u8; 64], b: [u8; 64]) -> bool
 }
 
 // Whether a lease has a hardware address: a type and the first n of some octets.
+#[tactic(auto, unfolding(crate::specs::Lease::has_hardware))]
 pub fn has_hardware(x: Lease, htype: u8, n: u8, octets: [u8; 64]) -> bool
     ensures { result ≡ has_hardware htype n octets x }
 {
@@ -72,6 +73,7 @@ pub fn has_hardware(x: Lease, htype: u8, n: u8, octets: [u8; 64]) -> bool
 }
 
 // Whether a lease has a client id: the first n of some octets.
+#[tactic(auto, unfolding(crate::specs::Lease::has_client_id))]
 pub fn has_client_id(x: Lease, n: u8, octets: [u8; 64]) -> bool
     ensures { result ≡ has_client_id n octets x }
 {

@@ -6,6 +6,7 @@ ghost use Rattle.lease.specs.Leading.{leading};
 use octets::word;
 
 // Of a number of eight octets, what the first n of them make.
+#[tactic(auto, unfolding(crate::specs::Leading::leading))]
 fn leading_octets(n: u8, v: u64) -> u64
     ensures { result ≡ leading n v }
 {

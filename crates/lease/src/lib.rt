@@ -1,4 +1,7 @@
 // One record of the lease table, by value: its form, whether it is active, the keys it has, its rank.
+
+#![tactic(auto)]
+
 use clock::Moment;
 
 pub mod activity;
@@ -9,7 +12,7 @@ pub mod order;
 
 // A lease. The octets of `id` and `relay` past their lengths are not looked at.
 #[repr(C)]
-#[derive(Drop)]
+#[derive(Clone, Copy)]
 pub struct Lease {
     // The moment of the last transaction.
     pub last: Moment,
@@ -33,7 +36,7 @@ pub struct Lease {
 
 // What a lease is ranked by. The address has eight octets, so that an array of ranks has no gaps and
 // is copied in one piece.
-#[derive(Drop)]
+#[derive(Clone, Copy)]
 pub struct Rank {
     pub last: Moment,
     pub address: u64,

@@ -16,6 +16,7 @@ pub fn rank_of(x: Lease) -> Rank
 }
 
 // Whether one rank comes before another.
+#[tactic(auto, unfolding(crate::specs::Lease::ranks_before))]
 pub fn is_before(x: Rank, y: Rank) -> bool
     ensures { result ≡ ranks_before x y }
 {
