@@ -1,4 +1,4 @@
-use Rattle.std.proofs.Common.{sym, ◌∙◌, arith, rules}
+use Rattle.std.proofs.Common.{sym, ◌∙◌, rules}
 use Rattle.addresses.specs.Addresses.{octets6, counted6}
 use Rattle.addresses.proofs.CountedLaws.{Four}
 use Rattle.addresses.proofs.ChangeLaws.{added_there, added_full, added_new}
@@ -10,9 +10,9 @@ returns-then-has6 c = added_there octets6 _ _ (sym c.has6.ensures ∙ c.if-has6.
 pub returns-then-s-ge4 : goal.returns-then-s-ge4
 returns-then-s-ge4 c =
     let four : Four (counted6 c.args.s) = search rules in
-    added_full octets6 _ (counted6 c.args.s) four (sym c.has6.ensures ∙ c.if-has6.false) c.if-s-ge4.true
+    added_full octets6 _ (counted6 c.args.s) four (sym c.has6.ensures ∙ c.if-has6.false) (omega arith)
 
 pub returns : goal.returns
 returns c =
     let four : Four (counted6 c.args.s) = search rules in
-    added_new octets6 _ (counted6 c.args.s) four (sym c.has6.ensures ∙ c.if-has6.false) c.if-s-ge4.false
+    added_new octets6 _ (counted6 c.args.s) four (sym c.has6.ensures ∙ c.if-has6.false) (omega arith)
