@@ -1,4 +1,4 @@
-use Rattle.std.proofs.Common.{sym, ◌∙◌, rules}
+use Rattle.std.proofs.Common.{sym, ◌∙◌, arith, rules}
 use Rattle.addresses.specs.Addresses.{octets4, counted4}
 use Rattle.addresses.proofs.CountedLaws.{Four}
 use Rattle.addresses.proofs.ChangeLaws.{added_there, added_full, added_new}
