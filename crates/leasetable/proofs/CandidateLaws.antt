@@ -108,7 +108,7 @@ abbrev carried_with : Carried → ℕ → List Rank → Carried
 carried_with h kept ranks = record { refusal = h.refusal; clock = h.clock; key = h.key; kept = kept; ranks = ranks }
 
 pub record ClientReached (p n : ℕ) (clock : Moment) (key : Key) (h : Carried) (l : List Lease) : Type 0 where
-  pub refusal_is_lem : h.refusal ≡ n
+  pub refusal_is : h.refusal ≡ n
   pub clock_is : h.clock ≡ clock
   pub key_is : h.key ≡ key
   pub reached : Reached p h.kept h.ranks l
@@ -126,7 +126,7 @@ module _ {A : Type 0} (p : ℕ) (of : A → Carried) (carry : A → ℕ → List
       let h : k ≤ p = omega (arith, r.reached.kept_is) in
       let m = inserted p k (rank_of x) (of a).ranks in
       let e : of (add a x) ≡ carried_with (of a) (min (k + 1) p) m = ap of (noted_is p k (of a).ranks x (carry a) a h) ∙ carries a (min (k + 1) p) m in
-      subst (λ (g : Carried). ClientReached p n clock key g (placed x l)) (sym e) (record { refusal_is_lem = r.refusal_is; clock_is = r.clock_is; key_is = r.key_is; reached = reached_more p k (of a).ranks l x r.reached })
+      subst (λ (g : Carried). ClientReached p n clock key g (placed x l)) (sym e) (record { refusal_is = r.refusal_is; clock_is = r.clock_is; key_is = r.key_is; reached = reached_more p k (of a).ranks l x r.reached })
 
   client_wants : (a : A) (l : List Lease) (x : Lease) → ClientReached p n clock key (of a) l → wanted (of a).clock (of a).key x ≡ wanted clock key x
   client_wants a l x r = rw (r.key_is, r.clock_is)

@@ -121,7 +121,7 @@ above_those test (x ∷ xs) p e =
     cases (test x) (λ w. rw w (omega (arith, h.0))) (λ w. rw w (above_those test xs x.address h.1))
 
 pub record Looked (n : ℕ) (clock : Moment) (kind : ℕ) (r : Found) (l : List Lease) : Type 0 where
-  pub refusal_is_lem : r.refusal ≡ n
+  pub refusal_is : r.refusal ≡ n
   pub clock_is : r.clock ≡ clock
   pub kind_is_lem : r.kind ≡ kind
   pub kept_is : r.kept ≡ min (length l) 63
@@ -141,7 +141,7 @@ module _ (n : ℕ) (clock : Moment) (key : Key) (t : List Lease) where
   unfolding associated_from
   ranked h r =
       cases (eqb h.kept 4)
-      (λ e. rw e (let g = associated_fold n clock key t (associated_at false h 0 no_ranks) [] (record { refusal_is_lem = r.refusal_is; clock_is = r.clock_is; key_is = r.key_is; reached = reached_none 63 no_ranks (length-replicate {A = Rank} 63 no_rank) }) in
+      (λ e. rw e (let g = associated_fold n clock key t (associated_at false h 0 no_ranks) [] (record { refusal_is = r.refusal_is; clock_is = r.clock_is; key_is = r.key_is; reached = reached_none 63 no_ranks (length-replicate {A = Rank} 63 no_rank) }) in
       (g.refusal_is, g.clock_is, g.key_is, g.reached.kept_is, g.reached.ranks_are)))
       (λ e.
       let k = r.reached.kept_is in
@@ -173,8 +173,8 @@ module _ (n : ℕ) (clock : Moment) (key : Key) (t : List Lease) where
   unfolding looked found
   client_looked h p c k r g e =
       let o : ltb h.key.kind 2 ≡ false = le-ltb h.key.kind 2 (subst (λ (y : Key). 2 ≤ y.kind) (sym k) g) in
-      let u = candidates_fold n clock key t h [] (record { refusal_is_lem = p; clock_is = c; key_is = k; reached = r }) in
+      let u = candidates_fold n clock key t h [] (record { refusal_is = p; clock_is = c; key_is = k; reached = r }) in
       let v = ranked (foldl candidates_turn h t) u in
       let one : (foldl candidates_turn h t).key.kind ≡ 1 → ⊥ = λ z. (let s = ap (λ (y : Key). y.kind) u.key_is in omega (arith, s, z, g)) in
       let w = best (foldl candidates_turn h t) l₀ one u.reached (all_order (Only 0 t) [] (those (wanted clock key) t) tt (all_those (Only 0 t) (wanted clock key) t (all_only t 0 e))) e in
-      rw o (record { refusal_is_lem = v.0; clock_is = v.1; kind_is_lem = ap (λ (y : Key). y.kind) v.2; kept_is = v.3; ranks_are = v.4; best_is = w.0; above = w.1 })
+      rw o (record { refusal_is = v.0; clock_is = v.1; kind_is_lem = ap (λ (y : Key). y.kind) v.2; kept_is = v.3; ranks_are = v.4; best_is = w.0; above = w.1 })

@@ -97,6 +97,8 @@ length_joined w (suc n) (o ∷ os) l h =
     let q : length (joined os l) ≡ n * w + length l = length_joined w n os l h.1 in
     let k : length o ≡ w = h.0 in
     rw (length-append o (joined os l), suc-mul n w) (omega arith)
+length_joined w zero (o ∷ os) l h = elim h [ ]
+length_joined w (suc n) [] l h = elim h [ ]
 
 -- four of them and a number, read again
 module _ (w : ℕ) (o₁ o₂ o₃ o₄ : List ℕ) (n : ℕ) (h : Wide w 4 (o₁ ∷ o₂ ∷ o₃ ∷ o₄ ∷ [])) where
@@ -135,6 +137,7 @@ module _ {A : Type 0} (octets : A → List ℕ) (thing : List ℕ → A) (same :
   again (a ∷ b ∷ c ∷ d ∷ []) n h =
       (ap (map thing) (strings_read w (octets a) (octets b) (octets c) (octets d) n h) ∙ (λ i. same a i ∷ same b i ∷ same c i ∷ same d i ∷ []), count_read w (octets a) (octets b) (octets c) (octets d) n h)
   again (a ∷ b ∷ c ∷ d ∷ e ∷ l) n h = absurd h.1.1.1.1
+  again [] n h = elim h [ ]
 
 module _ (e : Entry) (h : SizedEntry e) where
   abbrev s : List ℕ
@@ -192,6 +195,8 @@ entries_length (suc n) (e ∷ es) h =
     let l : length (entry_octets e) ≡ 374 = entry_length e h.0 in
     let k : length (entries_octets es) ≡ n * 374 = entries_length n es h.1 in
     length-append (entry_octets e) (entries_octets es) ∙ rw (suc-mul n 374) (omega arith)
+entries_length zero (e ∷ es) h = elim h [ ]
+entries_length (suc n) [] h = elim h [ ]
 
 entries_again : (n : ℕ) (es : List Entry) → SizedEntries n es → map entry_in (rows 374 n (entries_octets es)) ≡ es
 unfolding rows entries_octets
@@ -201,6 +206,8 @@ entries_again (suc n) (e ∷ es) h =
     ap (λ (u : List ℕ). entry_in u ∷ map entry_in (rows 374 n (drop 374 (entry_octets e ++ entries_octets es)))) (take_at (entry_octets e) (entries_octets es) 374 l)
     ∙ ap (λ (u : List ℕ). entry_in (entry_octets e) ∷ map entry_in (rows 374 n u)) (drop_at (entry_octets e) (entries_octets es) 374 l)
     ∙ (λ i. entry_again e h.0 i ∷ entries_again n es h.1 i)
+entries_again zero (e ∷ es) h = elim h [ ]
+entries_again (suc n) [] h = elim h [ ]
 
 -- Every zone whose arrays have the lengths of the struct has octets that hold it.
 pub every_zone_is_held : EveryZoneIsHeld
