@@ -11,14 +11,14 @@ use addresses::{set4, set6};
 use dname::name::Name;
 
 #[repr(C)]
-#[derive(Drop)]
+#[derive(Clone, Copy)]
 pub struct Dhcid {
     pub octets: [u8; 35],
 }
 
 // An address of family 4 is the first 4 octets, one of family 6 all 16.
 #[repr(C)]
-#[derive(Drop)]
+#[derive(Clone, Copy)]
 pub struct Address {
     pub octets: [u8; 16],
 }
@@ -26,7 +26,7 @@ pub struct Address {
 // kind: 0 is a free place, 1 a static name, 2 a name held by the DHCID; any other number breaks the
 // form. What a free place holds besides, and a static name's DHCID, is ignored.
 #[repr(C)]
-#[derive(Drop)]
+#[derive(Clone, Copy)]
 pub struct Entry {
     pub kind: u8,
     pub name: Name,
@@ -36,7 +36,7 @@ pub struct Entry {
 }
 
 // What stands at a name: a place but for the name.
-#[derive(Drop)]
+#[derive(Clone, Copy)]
 pub struct Records {
     pub kind: u8,
     pub dhcid: Dhcid,

@@ -11,7 +11,7 @@ use dname::name::Name;
 
 // inorder: every place is in order. distinct: no two names are equal. found: the place of the name
 // asked for, and free: a free place, each 64 where there is none.
-#[derive(Drop)]
+#[derive(Clone, Copy)]
 pub struct Survey {
     pub inorder: bool,
     pub distinct: bool,
@@ -20,7 +20,7 @@ pub struct Survey {
 }
 
 // A survey, with what stands at the place found; where none is, any place.
-#[derive(Drop)]
+#[derive(Clone, Copy)]
 pub struct Visit {
     pub survey: Survey,
     pub entry: Entry,
