@@ -5,7 +5,7 @@ ghost use Rattle.entries.specs.Places.{earlier_of};
 use clock::Moment;
 
 // The entry to be evicted among those from a place on: its place and when it expires.
-#[derive(Drop)]
+#[derive(Clone, Copy)]
 pub struct Candidate {
     pub at: usize,
     pub expires: Moment,

@@ -1,6 +1,9 @@
 // What the lists that routers keep filled have in common, whatever their entries are about: the two
 // moments of an entry, and which entry of a full list goes. The rules of such a list are in
 // specs/Entries.antt, and their laws in proofs.
+
+#![tactic(auto)]
+
 pub mod eviction;
 
 ghost use Rattle.std.specs.Prelude.{◌≡◌};
@@ -11,13 +14,14 @@ use clock::{Moment, Span};
 
 // The moments of an entry: its expiry, by the Lifetime of the option that named it last, a moment or
 // clock::NEVER; and the moment at which that router's lifetime ends.
-#[derive(Drop)]
+#[derive(Clone, Copy)]
 pub struct Moments {
     pub expiry: Moment,
     pub router: Moment,
 }
 
 // When an entry expires: at the earlier of its moments.
+#[tactic(auto, unfolding(crate::specs::Entries::earlier))]
 pub fn earlier(m: Moments) -> Moment
     ensures { result ≡ earlier m }
 {
@@ -27,6 +31,7 @@ pub fn earlier(m: Moments) -> Moment
 }
 
 // Whether the expiry is a moment or never, and the router moment a moment.
+#[tactic(auto, unfolding(crate::specs::Entries::are_moments))]
 pub fn are_moments(m: Moments) -> bool
     ensures { result ≡ are_moments m }
 {
@@ -44,6 +49,7 @@ pub fn is_expired(m: Moments, clock: Moment) -> bool
 }
 
 // The moments that an option with a Lifetime gives, in an area of a router with a lifetime.
+#[tactic(auto, unfolding(crate::specs::Entries::moments_after))]
 pub fn moments_after(clock: Moment, lifetime: Span, router: Span) -> Moments
     ensures { result ≡ moments_after clock lifetime router }
 {
@@ -56,6 +62,7 @@ pub fn moments_after(clock: Moment, lifetime: Span, router: Span) -> Moments
 }
 
 // Whether an option withdraws what it names: its Lifetime is 0, or the router's lifetime is.
+#[tactic(auto, unfolding(crate::specs::Entries::withdraws))]
 pub fn withdraws(lifetime: Span, router: Span) -> bool
     ensures { result ≡ withdraws lifetime router }
 {
