@@ -47,7 +47,7 @@ placed_length x l = sym (length-map (placed x l) rank_of) ∙ ap length (placed_
 pub record Reached (p kept : ℕ) (ranks : List Rank) (l : List Lease) : Type 0 where
   pub kept_is : kept ≡ min (length l) p
   pub ranks_are : take kept ranks ≡ take p (map rank_of l)
-  pub places_are_lem : length ranks ≡ p
+  pub places_are : length ranks ≡ p
 
 insert_places : (p k : ℕ) (e : Rank) (l : List Rank) → k ≤ p → length l ≡ p → length (inserted p k e l) ≡ p
 unfolding inserted
@@ -76,7 +76,7 @@ insert_ranks p k e l rs q g w =
     ∙ placed_rank_front p e rs
 
 pub reached_none : (p : ℕ) (ranks : List Rank) → length ranks ≡ p → Reached p 0 ranks []
-reached_none p ranks e = record { kept_is = omega arith; ranks_are = sym (take_nil p); places_are_lem = e }
+reached_none p ranks e = record { kept_is = omega arith; ranks_are = sym (take_nil p); places_are = e }
   where
     take_nil : (n : ℕ) → take n (map rank_of []) ≡ []
     take_nil zero = refl
@@ -89,8 +89,8 @@ reached_more p k ranks l x r =
     let z = placed_length x l in
     record {
       kept_is = omega (arith, r.kept_is, z);
-      ranks_are = insert_ranks p k (rank_of x) ranks (map rank_of l) (omega (arith, r.kept_is, m)) r.places_are_lem r.ranks_are ∙ sym (ap (take p) (placed_ranks x l));
-      places_are_lem = insert_places p k (rank_of x) ranks h r.places_are_lem;
+      ranks_are = insert_ranks p k (rank_of x) ranks (map rank_of l) (omega (arith, r.kept_is, m)) r.places_are r.ranks_are ∙ sym (ap (take p) (placed_ranks x l));
+      places_are = insert_places p k (rank_of x) ranks h r.places_are;
     }
 
 abbrev pub order : List Lease → List Lease → List Lease

@@ -38,8 +38,8 @@ rest_is n l i d h g =
     let k : i < length (take n l) = simp length-take (omega arith) in
     drop-cons (take n l) i d k ∙ rw (get_or-take n l i d, ← add-one)
 
-goes_on_lem : (n : ℕ) (l : List Rank) (c : Rank) (i : ℕ) (d : Rank) → i < n → n ≤ length l → ranks_before c (get_or l i d) ≡ false → at n l c i ≡ at n l c (i + 1)
-goes_on_lem n l c i d h g e =
+goes_on : (n : ℕ) (l : List Rank) (c : Rank) (i : ℕ) (d : Rank) → i < n → n ≤ length l → ranks_before c (get_or l i d) ≡ false → at n l c i ≡ at n l c (i + 1)
+goes_on n l c i d h g e =
     let k : i < length l = omega arith in
     ap (λ (t : List Rank). take i l ++ placed_rank c t) (rest_is n l i d h g)
     ∙ ap (λ (t : List Rank). take i l ++ t) (placed_rank_later c (get_or l i d) (drop (i + 1) (take n l)) e)
@@ -102,7 +102,7 @@ module _ {p n : ℕ} {l₀ : List Rank} {c₀ : Rank} {l : List Rank} {c : Rank}
         room = s.room;
         places = ap length u ∙ g;
         rest = s.rest ∙ ap (take p)
-            (ap (λ (t : List Rank). t ++ drop (n + 1) l) (goes_on_lem n l c i no_rank h m e)
+            (ap (λ (t : List Rank). t ++ drop (n + 1) l) (goes_on n l c i no_rank h m e)
             ∙ sym (ap (λ (t : List Rank). whole n t d (i + 1)) u ∙ ap (λ (t : Rank). whole n l t (i + 1)) v));
       }
 

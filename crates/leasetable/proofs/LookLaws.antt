@@ -123,7 +123,7 @@ above_those test (x ∷ xs) p e =
 pub record Looked (n : ℕ) (clock : Moment) (kind : ℕ) (r : Found) (l : List Lease) : Type 0 where
   pub refusal_is : r.refusal ≡ n
   pub clock_is : r.clock ≡ clock
-  pub kind_is_lem : r.kind ≡ kind
+  pub kind_is : r.kind ≡ kind
   pub kept_is : r.kept ≡ min (length l) 63
   pub ranks_are : take r.kept r.ranks ≡ take 63 (map rank_of l)
   pub best_is : r.best ≡ head_d l no_lease
@@ -149,7 +149,7 @@ module _ (n : ℕ) (clock : Moment) (key : Key) (t : List Lease) where
       let s : h.kept ≤ 3 = few h.kept (length l₀) k m in
       let z : length l₀ ≤ 3 = fewer h.kept (length l₀) k m in
       let w = length-map l₀ rank_of in
-      rw e (r.refusal_is, r.clock_is, r.key_is, omega (arith, k, z), three h.ranks h.kept r.reached.places_are_lem s ∙ r.reached.ranks_are ∙ take_all 4 (map rank_of l₀) (omega (arith, w, z)) ∙ sym (take_all 63 (map rank_of l₀) (omega (arith, w, z)))))
+      rw e (r.refusal_is, r.clock_is, r.key_is, omega (arith, k, z), three h.ranks h.kept r.reached.places_are s ∙ r.reached.ranks_are ∙ take_all 4 (map rank_of l₀) (omega (arith, w, z)) ∙ sym (take_all 63 (map rank_of l₀) (omega (arith, w, z)))))
     where
       few : (k m : ℕ) → k ≡ min m 4 → (k ≡ 4 → ⊥) → k ≤ 3
       few k m e n = cases (ltb k 4) (λ t. omega (arith, ltb-true k 4 t)) (λ t. absurd (n (omega (arith, e, ltb-false k 4 t))))
@@ -177,4 +177,4 @@ module _ (n : ℕ) (clock : Moment) (key : Key) (t : List Lease) where
       let v = ranked (foldl candidates_turn h t) u in
       let one : (foldl candidates_turn h t).key.kind ≡ 1 → ⊥ = λ z. (let s = ap (λ (y : Key). y.kind) u.key_is in omega (arith, s, z, g)) in
       let w = best (foldl candidates_turn h t) l₀ one u.reached (all_order (Only 0 t) [] (those (wanted clock key) t) tt (all_those (Only 0 t) (wanted clock key) t (all_only t 0 e))) e in
-      rw o (record { refusal_is = v.0; clock_is = v.1; kind_is_lem = ap (λ (y : Key). y.kind) v.2; kept_is = v.3; ranks_are = v.4; best_is = w.0; above = w.1 })
+      rw o (record { refusal_is = v.0; clock_is = v.1; kind_is = ap (λ (y : Key). y.kind) v.2; kept_is = v.3; ranks_are = v.4; best_is = w.0; above = w.1 })

@@ -9,7 +9,7 @@ use clock::Moment;
 use lease::{Lease, Rank, activity, key, order};
 
 // The ranks of the first 63 active leases of the client, unless all are known, among the records passed.
-#[derive(Drop)]
+#[derive(Clone, Copy)]
 pub struct Associated {
     pub known: bool,
     // The refusal because of which nothing is looked for, or 0.
@@ -29,6 +29,7 @@ fn is_off(a: Associated) -> bool
 
 // Whether a lease has a client's key. Each scan has this for itself: called from two, it would stay a
 // call, with a copy of its arguments for every record.
+#[tactic(auto, unfolding(crate::specs::Folds::client_has))]
 fn has_client(k: Key, x: Lease) -> bool
     ensures { result ≡ client_has k x }
 {
@@ -86,6 +87,7 @@ fn one_more(kept: usize) -> usize
 }
 
 // A record is noted.
+#[tactic(auto, unfolding(crate::specs::Folds::noted))]
 fn with_record(a: Associated, x: Lease) -> Associated
     ensures { result ≡ associated_add a x }
 {

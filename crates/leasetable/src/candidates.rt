@@ -8,7 +8,7 @@ use clock::Moment;
 use lease::{Lease, Rank, activity, key, order};
 
 // The ranks of the first four active leases of the client among the records passed.
-#[derive(Drop)]
+#[derive(Clone, Copy)]
 pub struct Candidates {
     // The refusal because of which nothing is looked for, or 0.
     pub refusal: u32,
@@ -28,6 +28,7 @@ fn is_off(a: Candidates) -> bool
 
 // Whether a lease has a client's key. Each scan has this for itself: called from two, it would stay a
 // call, with a copy of its arguments for every record.
+#[tactic(auto, unfolding(crate::specs::Folds::client_has))]
 fn has_client(k: Key, x: Lease) -> bool
     ensures { result ≡ client_has k x }
 {
@@ -85,6 +86,7 @@ fn one_more(kept: usize) -> usize
 }
 
 // A record is noted.
+#[tactic(auto, unfolding(crate::specs::Folds::noted))]
 fn with_record(a: Candidates, x: Lease) -> Candidates
     ensures { result ≡ candidates_add a x }
 {

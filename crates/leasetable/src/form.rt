@@ -9,7 +9,7 @@ use lease::{Lease, form};
 const LONGEST_TABLE: usize = 256;
 
 // What is known of the records passed: whether the table may keep the form, and the last address.
-#[derive(Drop)]
+#[derive(Clone, Copy)]
 pub struct Form {
     pub ok: bool,
     pub last: u32,
@@ -40,6 +40,7 @@ fn does_want(a: Form, x: Lease) -> bool
 }
 
 // One record more.
+#[tactic(auto, unfolding(crate::specs::Folds::form_add))]
 fn with_record(a: Form, x: Lease) -> Form
     ensures { result ≡ form_add a x }
 {

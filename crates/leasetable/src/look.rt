@@ -12,7 +12,7 @@ use lease::{Lease, Rank};
 
 // What was found. By address, `best` is the record of that address; by client it is the active lease of
 // the client that ranks first, and `ranks` has the ranks of the first 63. Without one its address is 0.
-#[derive(Drop)]
+#[derive(Clone, Copy)]
 pub struct Found {
     // The refusal because of which nothing is looked for, or 0.
     pub refusal: u32,
@@ -24,6 +24,7 @@ pub struct Found {
 }
 
 // Where the client has less than four leases, all ranks are known.
+#[tactic(auto, unfolding(crate::specs::Folds::associated_from))]
 fn associated_from(four: Candidates) -> Associated
     ensures { result ≡ associated_from four }
 {
@@ -62,6 +63,7 @@ fn associated_from(four: Candidates) -> Associated
 }
 
 // The record that stands for none.
+#[tactic(auto, unfolding(lease::specs::Lease::no_lease))]
 fn no_lease() -> Lease
     ensures { result ≡ no_lease }
 {
@@ -83,6 +85,7 @@ fn no_lease() -> Lease
 }
 
 // The address that is asked for, or that of the client's first lease.
+#[tactic(auto, unfolding(crate::specs::Folds::record_for))]
 fn record_for(four: Candidates) -> Record
     ensures { result ≡ record_for four }
 {
@@ -105,6 +108,7 @@ fn record_for(four: Candidates) -> Record
 }
 
 // All that was found.
+#[tactic(auto, unfolding(crate::specs::Folds::found))]
 fn found_by(all: Associated, one: Record) -> Found
     ensures { result ≡ found all one }
 {
@@ -123,6 +127,7 @@ fn found_by(all: Associated, one: Record) -> Found
 }
 
 // What is looked for is found in a table.
+#[tactic(auto, unfolding(crate::specs::Folds::looked))]
 pub fn look(t: &[Lease], a: Candidates) -> Found
     ensures { result ≡ looked a t.now }
 {

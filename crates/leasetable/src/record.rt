@@ -6,7 +6,7 @@ ghost use Rattle.leasetable.specs.Folds.{record_off, record_wants, record_add, r
 use lease::Lease;
 
 // The address that is looked for, unless none is, and its record, or one of the address 0.
-#[derive(Drop)]
+#[derive(Clone, Copy)]
 pub struct Record {
     pub none: bool,
     pub address: u64,

@@ -1,0 +1,11 @@
+use Rattle.std.proofs.Common.{◌-◌, ◌≡◌, length, drop}
+use mathlib.Core.List.{foldl}
+use Rattle.leasetable.specs.Folds.{candidates_turn}
+use Rattle.leasetable.proofs.candidates.scan.Given as goal
+
+-- What is folded so far goes on over the records that are left.
+abbrev pub invariant-loop-i : goal.invariant-loop-i
+invariant-loop-i l = foldl candidates_turn l.fn.a l.t ≡ foldl candidates_turn l.acc (drop l.i l.t)
+
+abbrev pub decreases-loop-i : goal.decreases-loop-i
+decreases-loop-i l = length l.t - l.i
