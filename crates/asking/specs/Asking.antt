@@ -49,7 +49,7 @@ unfinished sent m = ltb sent m
 
 module _ (C : Calls) where
   -- How often a name was deleted in a list of steps between the first of the m requests of job i and the last.
-  unfoldable pub deletions : {z₀ z : C.Z} {ks₀ ks : List C.J} → Steps C z₀ ks₀ z ks → ℕ → Octets → ℕ → ℕ
+  unfoldable pub deletions : {z₀ : C.Z} {ks₀ : List C.J} {z : C.Z} {ks : List C.J} → Steps C z₀ ks₀ z ks → ℕ → Octets → ℕ → ℕ
   deletions start i n m = 0
   deletions (stepped l x k r g p q) i n m =
       deletions l i n m + cond (deletes n (C.job_of k) (C.job_of (C.job r)).stage && (begun (own_steps C l i) && unfinished (own_steps C l i) m)) 1 0

@@ -177,6 +177,8 @@ pub record Begins (C : Calls) (js : List Arguments) (ks : List C.J) : Type 0 whe
 
 pub begins : (C : Calls) → Promises C → (js : List Arguments) (ks : List C.J) → Fresh C js ks → Begins C js ks
 begins C P [] [] no_job = record { along = λ i k e. absurd (some≢none (sym e)); stage = λ i k e. absurd (some≢none (sym e)) }
+begins C P [] (k ∷ ks) f = elim f [ ]
+begins C P (j ∷ js) [] f = elim f [ ]
 begins C P (j ∷ js) (k ∷ ks) (one_more m f) = go (begins C P js ks f)
   where
     is : C.job_of k ≡ record { arguments = j; stage = fresh j }

@@ -64,6 +64,8 @@ module _ (C : Calls) (P : Promises C) (js : List Arguments) (z₀ : C.Z) (ks₀ 
   regular_first [] [] no_job i k e = absurd (some≢none (sym e))
   regular_first (j ∷ js) (x ∷ ks) (one_more m f) zero k e = let q : x ≡ k = cc in subst (λ (u : C.J). Regular (C.job_of u)) q (subst Regular (sym (P.new j x m)) (regular_fresh j))
   regular_first (j ∷ js) (x ∷ ks) (one_more m f) (suc i) k e = regular_first js ks f i k e
+  regular_first [] (x ∷ ks) f i k e = elim f [ ]
+  regular_first (j ∷ js) [] f i k e = elim f [ ]
 
   pub regular : {z : C.Z} {ks : List C.J} → Steps C z₀ ks₀ z ks → (i : ℕ) (k : C.J) → get_elem? ks i ≡ some k → Regular (C.job_of k)
   regular start i k e = regular_first js ks₀ new i k e
@@ -119,6 +121,8 @@ module _ (C : Calls) (OkZone : C.Z → Type 0) (Ok : C.J → Type 0) (T : Taken 
   all_first [] [] no_job i k e = absurd (some≢none (sym e))
   all_first (j ∷ js) (x ∷ ks) (one_more m f) zero k e = let q : x ≡ k = cc in subst Ok q (T.new_ok j x m)
   all_first (j ∷ js) (x ∷ ks) (one_more m f) (suc i) k e = all_first js ks f i k e
+  all_first [] (x ∷ ks) f i k e = elim f [ ]
+  all_first (j ∷ js) [] f i k e = elim f [ ]
 
   module _ (js : List Arguments) (z₀ : C.Z) (ks₀ : List C.J) (formed : C.Formed z₀) (new : Fresh C js ks₀) where
     zone_stays : {z : C.Z} {ks : List C.J} → Steps C z₀ ks₀ z ks → OkZone z

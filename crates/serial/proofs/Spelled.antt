@@ -12,7 +12,7 @@ use Rattle.job.specs.declared.job.Job.{Job}
 use Rattle.job.specs.Meaning.{arguments_of, job_of}
 use Rattle.step.specs.declared.Stepped.{Stepped}
 use Rattle.step.specs.Promise.{step_refusal, StepPromise}
-use Rattle.serial.specs.Steps.{Calls, start, stepped, refused}
+use Rattle.serial.specs.Steps.{Calls, Steps, start, stepped, refused}
 use Rattle.serial.specs.Running.{running}
 use Rattle.serial.specs.OnOctets.{Left, StepOn, on_octets}
 use Rattle.serial.proofs.OnOctets.{returned, unrefused_in}
@@ -23,12 +23,15 @@ use Rattle.serial.specs.Spelling.{spelled_by_steps, SpelledBySteps, Spelled}
 module _ (C : Calls) (spelling : C.Z → Spelling)
     (each : (z : C.Z) (k : C.J) (r : C.R) → C.Step z k r → C.refusal r ≡ 0
     → spelling (C.zone r) ≡ respelled (C.job_of k).arguments.update.name (C.zone_of (C.zone r)) (spelling z)) where
-  spelled_steps : SpelledBySteps C spelling
+  by_steps : (z₀ : C.Z) (ks₀ : List C.J) (z : C.Z) (ks : List C.J) (l : Steps C z₀ ks₀ z ks) → spelling z ≡ spelled_by_steps C l (spelling z₀)
   unfolding spelled_by_steps
-  spelled_steps z₀ z ks₀ ks start = refl
-  spelled_steps z₀ z ks₀ ks (stepped {z = y} {ks = js} l i k r g p q) =
-      each y k r p q ∙ ap (respelled (C.job_of k).arguments.update.name (C.zone_of (C.zone r))) (spelled_steps z₀ y ks₀ js l)
-  spelled_steps z₀ z ks₀ ks (refused l y k r p q) = spelled_steps z₀ z ks₀ ks l
+  by_steps z₀ ks₀ z ks start = refl
+  by_steps z₀ ks₀ z ks (stepped {z = y} {ks = js} l i k r g p q) =
+      each y k r p q ∙ ap (respelled (C.job_of k).arguments.update.name (C.zone_of (C.zone r))) (by_steps z₀ ks₀ y js l)
+  by_steps z₀ ks₀ z ks (refused l y k r p q) = by_steps z₀ ks₀ z ks l
+
+  spelled_steps : SpelledBySteps C spelling
+  spelled_steps z₀ z ks₀ ks l = by_steps z₀ ks₀ z ks l
 
 -- ---- of those that run
 

@@ -54,7 +54,7 @@ pub record SpellsZone (z : Zone) : Type 0 where
 
 -- The list of steps: each that is not refused respells as a request about its job's name.
 module _ (C : Calls) where
-  unfoldable pub spelled_by_steps : {z₀ z : C.Z} {ks₀ ks : List C.J} → Steps C z₀ ks₀ z ks → Spelling → Spelling
+  unfoldable pub spelled_by_steps : {z₀ : C.Z} {ks₀ : List C.J} {z : C.Z} {ks : List C.J} → Steps C z₀ ks₀ z ks → Spelling → Spelling
   spelled_by_steps start s = s
   spelled_by_steps (stepped l i k r g p q) s = respelled (C.job_of k).arguments.update.name (C.zone_of (C.zone r)) (spelled_by_steps l s)
   spelled_by_steps (refused l y k r p q) s = spelled_by_steps l s

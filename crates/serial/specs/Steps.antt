@@ -70,13 +70,13 @@ module _ (C : Calls) where
   -- ---- what is read off it
 
   -- The number of a job's own steps up to its end, refused ones aside: the requests that it has sent.
-  unfoldable pub own_steps : {z₀ z : C.Z} {ks₀ ks : List C.J} → Steps z₀ ks₀ z ks → ℕ → ℕ
+  unfoldable pub own_steps : {z₀ : C.Z} {ks₀ : List C.J} {z : C.Z} {ks : List C.J} → Steps z₀ ks₀ z ks → ℕ → ℕ
   own_steps start i = 0
   own_steps (stepped l n k r g p q) i = own_steps l i + cond (eqb n i && going (C.job_of k).stage) 1 0
   own_steps (refused l y k r p q) i = own_steps l i
 
   -- No step of a job that wasn't refused changed the zone.
-  unfoldable pub ChangedNothing : {z₀ z : C.Z} {ks₀ ks : List C.J} → Steps z₀ ks₀ z ks → ℕ → Type 0
+  unfoldable pub ChangedNothing : {z₀ : C.Z} {ks₀ : List C.J} {z : C.Z} {ks : List C.J} → Steps z₀ ks₀ z ks → ℕ → Type 0
   ChangedNothing start i = Unit
   ChangedNothing (stepped {z = z} l n k r g p q) i = ChangedNothing l i × (n ≡ i → C.zone_of (C.zone r) ≡ C.zone_of z)
   ChangedNothing (refused l y k r p q) i = ChangedNothing l i
@@ -98,7 +98,7 @@ module _ (C : Calls) where
     pub so : P (C.job_of job)
 
   -- This held of job a when job b sent its first request: one of the steps is of b, which had sent none before it.
-  unfoldable pub AtFirst : (Job → Type 0) → {z₀ z : C.Z} {ks₀ ks : List C.J} → Steps C z₀ ks₀ z ks → ℕ → ℕ → Type 0
+  unfoldable pub AtFirst : (Job → Type 0) → {z₀ : C.Z} {ks₀ : List C.J} {z : C.Z} {ks : List C.J} → Steps C z₀ ks₀ z ks → ℕ → ℕ → Type 0
   AtFirst P start a b = ⊥
   AtFirst P (stepped {ks = ks} l i k r g p q) a b = AtFirst P l a b ⊎ ((i ≡ b) × (own_steps C l b ≡ 0) × HoldsOf P a ks)
   AtFirst P (refused l y k r p q) a b = AtFirst P l a b

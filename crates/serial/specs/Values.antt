@@ -34,7 +34,7 @@ Values [] = Unit
 Values (k ∷ ks) = JobValue k × Values ks
 
 -- The zone and the jobs that a list of steps by value begins with, and what each of its steps returns.
-unfoldable pub Held : {z₀ z : Zone} {ks₀ ks : List Job} → Steps running z₀ ks₀ z ks → Type 0
+unfoldable pub Held : {z₀ : Zone} {ks₀ : List Job} {z : Zone} {ks : List Job} → Steps running z₀ ks₀ z ks → Type 0
 Held {z₀ = z} {ks₀ = ks} start = ZoneValue z × Values ks
 Held (stepped l i k r g p q) = Held l × ZoneValue r.zone × JobValue r.job
 Held (refused l y k r p q) = Held l
