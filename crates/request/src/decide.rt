@@ -12,7 +12,7 @@ use zone::entry::{Address, Dhcid, Records};
 use zone::survey::Survey;
 
 // place: where the records are to be written, 64 where nothing changes.
-#[derive(Drop)]
+#[derive(Clone, Copy)]
 pub(crate) struct Change {
     pub answer: u32,
     pub place: usize,

@@ -18,7 +18,7 @@ use zone::survey::Survey;
 // refusal: the number of document 01's table, 0 where there is none; 17 too where the octets are not
 // 23,936. answer: as that of a request by value.
 #[repr(C)]
-#[derive(Drop)]
+#[derive(Clone, Copy)]
 pub struct RequestAnswer {
     pub refusal: u32,
     pub answer: u32,
@@ -66,13 +66,7 @@ fn send(
 }
 
 // The check alone.
-#[unsafe(no_mangle)]
-pub extern "C" fn jespurla_zone_check_lent(
-    octets: &[u8],
-    name: Name,
-    family: u8,
-    policy: u8,
-) -> CheckAnswer
+pub fn jespurla_zone_check_lent(octets: &[u8], name: Name, family: u8, policy: u8) -> CheckAnswer
     ensures { result.refusal ≡ refusal_in octets.now (name_of name) family policy }
 {
     let s = survey_for(octets, &name.octets, name.len);
@@ -81,8 +75,7 @@ pub extern "C" fn jespurla_zone_check_lent(
 }
 
 // Request A: adds an absent name with the DHCID and the address.
-#[unsafe(no_mangle)]
-pub extern "C" fn jespurla_request_a_lent(
+pub fn jespurla_request_a_lent(
     octets: &mut [u8],
     name: Name,
     dhcid: Dhcid,
@@ -109,8 +102,7 @@ pub extern "C" fn jespurla_request_a_lent(
 }
 
 // Request B: at a name that the DHCID holds, deletes by policy, then adds the address.
-#[unsafe(no_mangle)]
-pub extern "C" fn jespurla_request_b_lent(
+pub fn jespurla_request_b_lent(
     octets: &mut [u8],
     name: Name,
     dhcid: Dhcid,
@@ -133,8 +125,7 @@ pub extern "C" fn jespurla_request_b_lent(
 }
 
 // The first remove request: at a name that the DHCID holds, deletes the address.
-#[unsafe(no_mangle)]
-pub extern "C" fn jespurla_request_remove_address_lent(
+pub fn jespurla_request_remove_address_lent(
     octets: &mut [u8],
     name: Name,
     dhcid: Dhcid,
@@ -156,8 +147,7 @@ pub extern "C" fn jespurla_request_remove_address_lent(
 }
 
 // The second remove request: deletes a name that the DHCID holds and that has no address.
-#[unsafe(no_mangle)]
-pub extern "C" fn jespurla_request_remove_name_lent(
+pub fn jespurla_request_remove_name_lent(
     octets: &mut [u8],
     name: Name,
     dhcid: Dhcid,

@@ -1,5 +1,8 @@
 // The exported calls. Each request makes one survey of the zone, refuses on it, or decides on it and
 // writes at most one place.
+
+#![tactic(auto)]
+
 pub mod answer;
 mod decide;
 mod host;
@@ -25,7 +28,7 @@ use zone::{Zone, survey};
 
 // What is sent. kind: one of crate::kind; any other number counts as the second remove request.
 // policy: of request B; 0 where there is none.
-#[derive(Drop)]
+#[derive(Clone, Copy)]
 pub(crate) struct Request {
     pub kind: u8,
     pub family: u8,
@@ -37,7 +40,7 @@ pub(crate) struct Request {
 
 // What a request comes to: the refusal, 0 where there is none, the answer, and one place to write;
 // none where it says 64.
-#[derive(Drop)]
+#[derive(Clone, Copy)]
 pub(crate) struct Effect {
     pub refusal: u32,
     pub answer: u32,
@@ -47,7 +50,7 @@ pub(crate) struct Effect {
 
 // What the check answers. refusal: the number of document 01's table, 0 where there is none.
 #[repr(C)]
-#[derive(Drop)]
+#[derive(Clone, Copy)]
 pub struct CheckAnswer {
     pub refusal: u32,
 }
@@ -55,7 +58,7 @@ pub struct CheckAnswer {
 // refusal: the number of document 01's table, 0 where there is none. answer: 0 success, 3 NXDOMAIN,
 // 6 YXDOMAIN, 7 YXRRSET, 8 NXRRSET, 256 no room, as in crate::answer.
 #[repr(C)]
-#[derive(Drop)]
+#[derive(Clone, Copy)]
 pub struct Answered {
     pub refusal: u32,
     pub answer: u32,
@@ -226,8 +229,7 @@ fn settle(zone: Zone, w: Effect) -> Answered
 
 // The check alone, for what sends no request: the refusal that any request with these would get, 0
 // where there is none. Where there is no policy, 0 stands for it.
-#[unsafe(no_mangle)]
-pub extern "C" fn jespurla_zone_check(zone: Zone, name: Name, family: u8, policy: u8) -> CheckAnswer
+pub fn jespurla_zone_check(zone: Zone, name: Name, family: u8, policy: u8) -> CheckAnswer
     ensures { result.refusal ≡ refusal_of zone (name_of name) family policy }
 {
     let v = survey::survey_of(zone, name);
@@ -237,8 +239,7 @@ pub extern "C" fn jespurla_zone_check(zone: Zone, name: Name, family: u8, policy
 }
 
 // Request A: adds an absent name with the DHCID and the address.
-#[unsafe(no_mangle)]
-pub extern "C" fn jespurla_request_a(
+pub fn jespurla_request_a(
     zone: Zone,
     name: Name,
     dhcid: Dhcid,
@@ -253,8 +254,7 @@ pub extern "C" fn jespurla_request_a(
 }
 
 // Request B: at a name that the DHCID holds, deletes by policy, then adds the address.
-#[unsafe(no_mangle)]
-pub extern "C" fn jespurla_request_b(
+pub fn jespurla_request_b(
     zone: Zone,
     name: Name,
     dhcid: Dhcid,
@@ -270,8 +270,7 @@ pub extern "C" fn jespurla_request_b(
 }
 
 // The first remove request: at a name that the DHCID holds, deletes the address.
-#[unsafe(no_mangle)]
-pub extern "C" fn jespurla_request_remove_address(
+pub fn jespurla_request_remove_address(
     zone: Zone,
     name: Name,
     dhcid: Dhcid,
@@ -286,8 +285,7 @@ pub extern "C" fn jespurla_request_remove_address(
 }
 
 // The second remove request: deletes a name that the DHCID holds and that has no address.
-#[unsafe(no_mangle)]
-pub extern "C" fn jespurla_request_remove_name(
+pub fn jespurla_request_remove_name(
     zone: Zone,
     name: Name,
     dhcid: Dhcid,

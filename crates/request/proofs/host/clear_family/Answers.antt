@@ -1,0 +1,26 @@
+use Rattle.std.proofs.Common.{sym, ap}
+use Rattle.addresses.specs.Addresses.{Family, nothing}
+use Rattle.update.specs.Rules.{with}
+use Rattle.update.specs.Meaning.{host_of}
+use Rattle.addresses.proofs.SetLaws.{of_empty4, of_empty6}
+use Rattle.zone.specs.Survey.{place_of}
+use Rattle.request.proofs.HostLaws.{kept4, kept6, kept_to, set_nothing, sound_nothing, family_four, family_six}
+use Rattle.request.proofs.host.clear_family.Goals as goal
+
+pub returns-then-family-eq4 : goal.returns-then-family-eq4
+returns-then-family-eq4 c =
+    let s = c.args in
+    let w = of_empty4 c.empty_set4-none.ensures in
+    record {
+      makes = λ n o. kept_to (kept4 (place_of n s.e) o c.empty_set4-none.result nothing (sound_nothing _ _ w.1 w.0) (set_nothing _ w.0))
+          (ap (λ (f : Family). with f nothing (host_of (place_of n s.e))) (sym (family_four s.family c.if-family-eq4.true)));
+    }
+
+pub returns : goal.returns
+returns c =
+    let s = c.args in
+    let w = of_empty6 c.empty_set6-none.ensures in
+    record {
+      makes = λ n o. kept_to (kept6 (place_of n s.e) o c.empty_set6-none.result nothing (sound_nothing _ _ w.1 w.0) (set_nothing _ w.0))
+          (ap (λ (f : Family). with f nothing (host_of (place_of n s.e))) (sym (family_six s.family c.if-family-eq4.false)));
+    }
