@@ -1,7 +1,7 @@
 use Rattle.dname.specs.Name.{name_of}
 use Rattle.update.specs.Meaning.{update_of}
 use Rattle.request.specs.Inner.{request_of}
-use Rattle.request.proofs.PromiseLaws.{promise_refused, promise_visited}
+use Rattle.request.proofs.PromiseLaws.{promise_visited}
 use Rattle.request.proofs.effect_of.Goals as goal
 
 pub returns : goal.returns
