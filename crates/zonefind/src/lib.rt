@@ -1,5 +1,8 @@
 // What stands at a name of a zone that is lent: 23,936 octets in the layout of the C struct, which
 // are only read.
+
+#![tactic(auto)]
+
 ghost use Rattle.std.specs.Prelude.{◌≡◌, cond, length, take};
 ghost use Rattle.zonefind.specs.Find.{find_answer};
 ghost use Rattle.zonefind.specs.Inner.{Located};
@@ -13,14 +16,14 @@ use zone::survey;
 // refusal: the number of document 01's table, 0 where there is none. entry: the place of the name,
 // octet for octet; zeros where the name is absent, and beside a refusal.
 #[repr(C)]
-#[derive(Drop)]
+#[derive(Clone, Copy)]
 pub struct FindAnswer {
     pub refusal: u32,
     pub entry: Entry,
 }
 
 // A refusal, or 0, and the place of the name, 64 where there is none.
-#[derive(Drop)]
+#[derive(Clone, Copy)]
 struct Location {
     refusal: u32,
     place: usize,
@@ -57,8 +60,7 @@ fn locate(octets: &[u8], o: &[u8], len: u8) -> Location
 }
 
 // What stands at a name.
-#[unsafe(no_mangle)]
-pub extern "C" fn jespurla_zone_find(octets: &[u8], name: Name) -> FindAnswer
+pub fn jespurla_zone_find(octets: &[u8], name: Name) -> FindAnswer
     ensures { result ≡ find_answer octets.now name }
 {
     let l = locate(octets, &name.octets, name.len);
