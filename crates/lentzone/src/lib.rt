@@ -1,5 +1,8 @@
 // The 64 places of a zone in lent octets, in the layout of the C struct: surveyed where they lie, one
 // place asked for a name, read or written.
+
+#![tactic(auto)]
+
 mod decode;
 mod encode;
 pub mod layout;

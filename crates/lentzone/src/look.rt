@@ -12,7 +12,7 @@ use zone::{entry, fingerprint};
 
 // What a used place comes to: the fingerprint of its name, whether it is in order, and whether it has
 // the name asked for.
-#[derive(Drop)]
+#[derive(Clone, Copy)]
 pub(crate) struct Look {
     pub fingerprint: u32,
     pub fine: bool,

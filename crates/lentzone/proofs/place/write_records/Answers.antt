@@ -1,0 +1,10 @@
+use Rattle.lentzone.proofs.PlaceLaws.{written_no_zone, written_no_place, written_records}
+use Rattle.lentzone.proofs.place.write_records.Goals as goal
+
+pub returns-then-z-eq-ZONE_SIZE : goal.returns-then-z-eq-ZONE_SIZE
+returns-then-z-eq-ZONE_SIZE c =
+    let s = c.args in
+    written_records s.z.now s.place c.if-z-eq-ZONE_SIZE.true c.if-place-lt64.true _ _ s.r _ _ c.put_octet.ensures c.put_records.ensures
+
+pub returns-else-place-lt64 : goal.returns-else-place-lt64
+returns-else-place-lt64 c = written_no_place _ _ _ c.if-place-lt64.false
