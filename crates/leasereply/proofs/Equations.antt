@@ -30,29 +30,29 @@ unfolding encoded
 asked_is true code v = held_is code v
 asked_is false code v = refl
 
-number_is_lem : (b : Bool) (code v : ℕ) → asked b code (big_endian 4 v) ≡ cond b (option code (big_endian 4 v)) []
+number_is : (b : Bool) (code v : ℕ) → asked b code (big_endian 4 v) ≡ cond b (option code (big_endian 4 v)) []
 unfolding encoded
-number_is_lem true code v = let l = length_big_endian 4 v in encoded_held code (big_endian 4 v) (omega (arith, l))
-number_is_lem false code v = refl
+number_is true code v = let l = length_big_endian 4 v in encoded_held code (big_endian 4 v) (omega (arith, l))
+number_is false code v = refl
 
 module _ (clock : Moment) (server : ℕ) (query : List ℕ) (x : Lease) (addresses : List ℕ) where
   -- by any list
   abbrev under : Option (List ℕ) → ℕ → List ℕ → List ℕ
   under list code octets = cond (requested_by code list) octets []
 
-  by_list_lem : (list : Option (List ℕ)) → request_list query ≡ list → options_of 13 query (of_lease clock server x addresses) ≡ option 53 (13 ∷ []) ++ option 54 (big_endian 4 server)
+  by_list : (list : Option (List ℕ)) → request_list query ≡ list → options_of 13 query (of_lease clock server x addresses) ≡ option 53 (13 ∷ []) ++ option 54 (big_endian 4 server)
       ++ (under list 51 (option 51 (big_endian 4 (seconds_left x.expiry clock).0)) ++ under list 61 (optional 61 (take x.idlen x.id))
       ++ under list 82 (optional 82 (take x.relaylen x.relay)) ++ under list 91 (option 91 (big_endian 4 (seconds_since x.last clock).0)))
       ++ optional 92 (flat addresses) ++ (255 ∷ [])
   unfolding about_lease
-  by_list_lem list e =
+  by_list list e =
       active_parts query [] server clock x addresses
-      ∙ rw (e, number_is_lem (requested_by 51 list) 51 (seconds_left x.expiry clock).0, asked_is (requested_by 61 list) 61 (take x.idlen x.id), asked_is (requested_by 82 list) 82 (take x.relaylen x.relay), number_is_lem (requested_by 91 list) 91 (seconds_since x.last clock).0, held_is 92 (flat addresses)) refl
+      ∙ rw (e, number_is (requested_by 51 list) 51 (seconds_left x.expiry clock).0, asked_is (requested_by 61 list) 61 (take x.idlen x.id), asked_is (requested_by 82 list) 82 (take x.relaylen x.relay), number_is (requested_by 91 list) 91 (seconds_since x.last clock).0, held_is 92 (flat addresses)) refl
 
 pub equations : Equations
 equations =
     record {
       other = λ kind server query. other_parts query [] server kind;
-      in_full = λ clock server query x addresses e. by_list_lem clock server query x addresses none e;
-      as_listed = λ clock server query codes x addresses e. by_list_lem clock server query x addresses (some codes) e;
+      in_full = λ clock server query x addresses e. by_list clock server query x addresses none e;
+      as_listed = λ clock server query codes x addresses e. by_list clock server query x addresses (some codes) e;
     }

@@ -62,16 +62,16 @@ module _ (q front : List ℕ) (server : ℕ) where
   no_more kind false = nothing_sent q (of_server kind server) [] tt
   no_more kind true = nothing_sent q (of_server kind server) in_active (refl, (refl, (refl, (refl, (refl, tt)))))
 
-  other_options_lem : (kind : ℕ) → encoded (sent_by q (of_server kind server) (in_kind kind)) ≡ option 53 (kind ∷ []) ++ option 54 (big_endian 4 server)
+  other_options : (kind : ℕ) → encoded (sent_by q (of_server kind server) (in_kind kind)) ≡ option 53 (kind ∷ []) ++ option 54 (big_endian 4 server)
   unfolding sent_by of_server encoded
-  other_options_lem kind =
+  other_options kind =
       ap (λ (os : List Opt). option 53 (kind ∷ []) ++ encoded os)
       (ap (λ (os : List Opt). held 54 (big_endian 4 server) ++ os) (no_more kind (eqb kind 13)) ∙ append-nil (held 54 (big_endian 4 server)))
       ∙ ap (λ (l : List ℕ). option 53 (kind ∷ []) ++ l) server_held
 
   pub other_parts : (kind : ℕ) → front ++ options_of kind q (of_server kind server) ≡ front ++ option 53 (kind ∷ []) ++ option 54 (big_endian 4 server) ++ (255 ∷ [])
   unfolding options_of
-  other_parts kind = rw (other_options_lem kind) (simp append_assoc refl)
+  other_parts kind = rw (other_options kind) (simp append_assoc refl)
 
   pub active_parts : (clock : Moment) (x : Lease) (addresses : List ℕ) → front ++ options_of 13 q (of_lease clock server x addresses) ≡ front ++ option 53 (13 ∷ []) ++ option 54 (big_endian 4 server) ++ about_lease clock x (requested_in (request_list q)) ++ encoded (held 92 (flat addresses)) ++ (255 ∷ [])
   unfolding options_of of_lease of_server about_lease is_requested encoded
