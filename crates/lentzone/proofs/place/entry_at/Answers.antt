@@ -1,4 +1,4 @@
-use Rattle.std.proofs.Common.{◌≡◌, ℕ, ◌+◌, ◌-◌, ◌*◌, List, take, drop, ap, ◌∙◌, arith}
+use Rattle.std.proofs.Common.{◌≡◌, ℕ, ◌+◌, ◌-◌, ◌*◌, take, drop, ap, ◌∙◌, arith}
 use Rattle.lentzone.specs.Decode.{entry_in}
 use Rattle.lentzone.proofs.PlaceLaws.{row_there, row_no_zone, row_no_place}
 use Rattle.lentzone.proofs.place.entry_at.Goals as goal

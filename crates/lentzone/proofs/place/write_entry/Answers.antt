@@ -1,5 +1,5 @@
 use Rattle.zone.specs.Survey.{place_of}
-use Rattle.lentzone.proofs.PlaceLaws.{written_no_zone, written_no_place, written_entry}
+use Rattle.lentzone.proofs.PlaceLaws.{written_no_place, written_entry}
 use Rattle.lentzone.proofs.place.write_entry.Goals as goal
 
 pub returns-then-z-eq-ZONE_SIZE : goal.returns-then-z-eq-ZONE_SIZE

@@ -1,4 +1,4 @@
-use Rattle.lentzone.proofs.PlaceLaws.{written_no_zone, written_no_place, written_records}
+use Rattle.lentzone.proofs.PlaceLaws.{written_no_place, written_records}
 use Rattle.lentzone.proofs.place.write_records.Goals as goal
 
 pub returns-then-z-eq-ZONE_SIZE : goal.returns-then-z-eq-ZONE_SIZE

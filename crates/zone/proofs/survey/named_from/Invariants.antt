@@ -1,4 +1,4 @@
-use Rattle.std.proofs.Common.{◌≡◌, ◌-◌, ◌≤◌, length, drop}
+use Rattle.std.proofs.Common.{◌≡◌, ◌-◌, length, drop}
 use Rattle.dname.specs.Name.{key, name_of}
 use Rattle.octets.specs.Count.{member}
 use Rattle.zone.specs.Meaning.{keys}
