@@ -16,6 +16,7 @@ pub(crate) fn is_within(n: usize, least: usize, most: usize) -> bool
 }
 
 // The first refusal that applies, or 0.
+#[tactic(auto, unfolding(crate::specs::Query::first_refusal))]
 pub(crate) fn first_refusal(giaddr: u32, taken: bool, room: usize) -> u32
     ensures { result ≡ first_refusal giaddr taken room }
 {

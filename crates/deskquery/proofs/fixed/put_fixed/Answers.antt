@@ -1,0 +1,7 @@
+use Rattle.octets.proofs.WriteLaws.{then}
+use Rattle.leasepacket.specs.Layout.{fixed_fields}
+use Rattle.deskquery.proofs.fixed.put_fixed.Goals as goal
+
+pub returns : goal.returns
+unfolding fixed_fields
+returns c = then c.put_front-a.ensures c.put_back.ensures
