@@ -89,6 +89,7 @@ pub(crate) fn no_time() -> Time
 }
 
 // No addresses.
+#[tactic(auto, unfolding(octets::specs::Write::laid))]
 pub(crate) fn no_addresses() -> Addresses
     ensures { result ≡ addresses_of [] }
 {

@@ -37,6 +37,7 @@ fn does_keep(p: &[u8], code: u8, always: bool, least: usize, most: usize, unit: 
 }
 
 // Whether the options of every reply keep their rules: the kind and the server's address.
+#[tactic(auto, unfolding(crate::specs::Reply::keeps_all))]
 fn has_every(p: &[u8]) -> bool
     ensures { result ≡ keeps_all in_every p.now }
 {
@@ -48,6 +49,7 @@ fn has_every(p: &[u8]) -> bool
 
 // Whether the options that tell of an active lease keep theirs: seconds left, client id, relay
 // information, seconds since the last transaction, addresses. A reply may lack any of them.
+#[tactic(auto, unfolding(crate::specs::Reply::keeps_all))]
 fn has_active(p: &[u8]) -> bool
     ensures { result ≡ keeps_all in_active p.now }
 {
@@ -67,6 +69,7 @@ fn has_active(p: &[u8]) -> bool
 }
 
 // Whether the options of a reply of a kind keep theirs.
+#[tactic(auto, using(crate::proofs::ReplyLaws::keeps_both), unfolding(crate::specs::Reply::keeps_all))]
 fn has_all(p: &[u8], kind: u8) -> bool
     ensures { result ≡ keeps_all (in_kind kind) p.now }
 {
@@ -113,6 +116,7 @@ fn has_fields(p: &[u8]) -> bool
 }
 
 // Whether a packet is a well-formed reply.
+#[tactic(auto, unfolding(crate::specs::Reply::is_reply))]
 pub fn is_reply(p: &[u8]) -> bool
     ensures { result ≡ is_reply p.now }
 {
