@@ -22,6 +22,7 @@ fn is_same_owner(a: Records, b: Records) -> bool
     compare::same(&a.dhcid.octets, &b.dhcid.octets)
 }
 
+#[tactic(auto, unfolding(crate::specs::Inner::same_lists))]
 fn is_same_set4(s: Set4, t: Set4) -> bool
     ensures { result ≡ same_lists (list4 s) (list4 t) }
 {
@@ -31,6 +32,7 @@ fn is_same_set4(s: Set4, t: Set4) -> bool
     set4::is_within4(t, s)
 }
 
+#[tactic(auto, unfolding(crate::specs::Inner::same_lists))]
 fn is_same_set6(s: Set6, t: Set6) -> bool
     ensures { result ≡ same_lists (list6 s) (list6 t) }
 {

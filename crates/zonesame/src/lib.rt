@@ -1,5 +1,8 @@
 // Whether two zones are the same: the same names, owners and address sets, at whichever places. Both
 // are lent, 23,936 octets each in the layout of the C struct, and only read.
+
+#![tactic(auto)]
+
 mod count;
 mod host;
 mod places;
@@ -17,7 +20,7 @@ use lentzone::survey;
 // refusal: 17 where the octets of either are not 23,936 or its zone breaks its form, else 0. same: 1
 // or 0; beside a refusal 0.
 #[repr(C)]
-#[derive(Drop)]
+#[derive(Clone, Copy)]
 pub struct SameAnswer {
     pub refusal: u32,
     pub same: u32,
@@ -65,8 +68,7 @@ fn as_number(b: bool) -> u32
 }
 
 // Whether two zones are the same.
-#[unsafe(no_mangle)]
-pub extern "C" fn jespurla_zone_same(left: &[u8], right: &[u8]) -> SameAnswer
+pub fn jespurla_zone_same(left: &[u8], right: &[u8]) -> SameAnswer
     ensures { SamePromise left.now right.now result }
 {
     if !are_zones(left, right) {
