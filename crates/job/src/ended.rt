@@ -16,8 +16,7 @@ fn is_between(n: u8, first: u8, last: u8) -> bool
 }
 
 // 1 where the job's stage is an end, else 0. The stage alone decides, whatever else stands in the job.
-#[unsafe(no_mangle)]
-pub extern "C" fn jespurla_job_has_ended(job: Job) -> u8
+pub fn jespurla_job_has_ended(job: Job) -> u8
     ensures { result ≡ has_ended job }
 {
     let stage = job.stage;

@@ -13,7 +13,7 @@ use zone::entry::{Address, Dhcid};
 
 // refusal: the number of document 01's table, 0 where there is none.
 #[repr(C)]
-#[derive(Drop)]
+#[derive(Clone, Copy)]
 pub struct NewJob {
     pub refusal: u32,
     pub job: Job,
@@ -69,8 +69,7 @@ fn new_job(refusal: u32, job: Job) -> NewJob
 }
 
 // An add job, that has sent nothing yet.
-#[unsafe(no_mangle)]
-pub extern "C" fn jespurla_new_add(
+pub fn jespurla_new_add(
     name: Name,
     dhcid: Dhcid,
     family: u8,
@@ -93,13 +92,7 @@ pub extern "C" fn jespurla_new_add(
 }
 
 // A remove job, that has sent nothing yet.
-#[unsafe(no_mangle)]
-pub extern "C" fn jespurla_new_remove(
-    name: Name,
-    dhcid: Dhcid,
-    family: u8,
-    address: Address,
-) -> NewJob
+pub fn jespurla_new_remove(name: Name, dhcid: Dhcid, family: u8, address: Address) -> NewJob
     ensures { RemovePromise name dhcid family address result }
 {
     let refused = refusal(name, family, 0);

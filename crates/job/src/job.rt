@@ -10,7 +10,7 @@ use zone::entry::{Address, Dhcid};
 // this one; ignored for a remove.
 // address: of family 4 the first 4 octets, of family 6 all 16.
 #[repr(C)]
-#[derive(Drop)]
+#[derive(Clone, Copy)]
 pub struct Job {
     pub stage: u8,
     pub count: u8,

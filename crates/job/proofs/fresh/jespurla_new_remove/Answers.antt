@@ -1,0 +1,6 @@
+use Rattle.job.specs.Meaning.{stage_number, fresh_remove}
+use Rattle.job.proofs.fresh.jespurla_new_remove.Goals as goal
+
+pub returns : goal.returns
+unfolding fresh_remove stage_number
+returns c = rw (c.new_job.ensures, c.refusal-refused.ensures)
