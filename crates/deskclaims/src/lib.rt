@@ -1,1 +1,3 @@
 // What holds of queries that a desk writes and of replies that it reads; no code, only theorems.
+
+#![tactic(auto)]
