@@ -35,6 +35,7 @@ fn is_orderly(l: ServerList) -> bool
 }
 
 // Whether a list is sound: refusal 31 is for those that are not.
+#[tactic(auto, unfolding(crate::specs::Servers::is_sound))]
 pub fn is_sound(l: ServerList) -> bool
     ensures { result ≡ is_sound l }
 {
@@ -48,6 +49,7 @@ pub fn is_sound(l: ServerList) -> bool
 }
 
 // Whether a clock is a moment and not behind the list's: refusal 15 is for those that are not.
+#[tactic(auto, unfolding(crate::specs::Servers::is_timely))]
 pub fn is_timely(l: ServerList, clock: Moment) -> bool
     ensures { result ≡ is_timely l clock }
 {

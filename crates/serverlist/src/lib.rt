@@ -1,5 +1,8 @@
 // The DNS server list of RFC 5006 by itself: the servers that routers name, in order of preference,
 // each until it expires; its form, its expiry, the search of it, and what changes it.
+
+#![tactic(auto)]
+
 pub mod entry;
 pub mod eviction;
 pub mod expiry;
@@ -17,7 +20,7 @@ pub const PLACES: usize = 8;
 
 // An IPv6 address.
 #[repr(C)]
-#[derive(Drop)]
+#[derive(Clone, Copy)]
 pub struct Address6 {
     pub octets: [u8; 16],
 }
@@ -25,7 +28,7 @@ pub struct Address6 {
 // A DNS server and its moments: its expiry, a moment or clock::NEVER, and the router moment. It expires
 // at the earlier of the two.
 #[repr(C)]
-#[derive(Drop)]
+#[derive(Clone, Copy)]
 pub struct Server {
     pub address: Address6,
     pub expiry: Moment,
@@ -35,7 +38,7 @@ pub struct Server {
 // The servers, the preferred one first, and the last accepted clock. Places past the count are not
 // looked at, and are zero in a list that a call made.
 #[repr(C)]
-#[derive(Drop)]
+#[derive(Clone, Copy)]
 pub struct ServerList {
     pub entries: [Server; PLACES],
     pub count: usize,
