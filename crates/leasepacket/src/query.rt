@@ -12,7 +12,7 @@ use octets::number;
 
 // What is asked for. A hardware address is that of the packet; a client id is told by its place and
 // length in the packet.
-#[derive(Drop)]
+#[derive(Clone, Copy)]
 pub enum Query {
     ByAddress(u32),
     ByHardware(u8, u8),

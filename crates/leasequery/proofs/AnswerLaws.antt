@@ -17,17 +17,19 @@ use Rattle.lease.specs.declared.Rank.{Rank}
 use Rattle.lease.specs.Lease.{no_lease, active_at, has_hardware, has_client_id, rank_of}
 use Rattle.leasepacket.specs.Query.{Asked, refused, by_address, by_hardware, by_client_id, first_of}
 use Rattle.leasepacket.proofs.QueryLaws.{Sound, asking_sound}
+use Rattle.leasetable.specs.declared.form.Form.{Form}
 use Rattle.leasetable.specs.declared.client.Key.{Key}
+use Rattle.leasetable.specs.declared.candidates.Candidates.{Candidates}
 use Rattle.leasetable.specs.declared.record.Record.{Record}
 use Rattle.leasetable.specs.declared.look.Found.{Found}
 use Rattle.leasetable.specs.Table.{count_fits, table_fits, rises_from, those, placed, ranked}
-use Rattle.leasetable.specs.Folds.{form_of, client_has, no_rank, associated_from, record_for, found, looked}
+use Rattle.leasetable.specs.Folds.{form_start, form_from, form_of, client_has, no_rank, associated_from, record_for, found, looked}
 use Rattle.leasetable.proofs.FormLaws.{form_whole}
 use Rattle.leasetable.proofs.CandidateLaws.{reached_none}
 use Rattle.leasetable.proofs.LookLaws.{Looked, client_looked, record_fold, Above, above_those}
 use Rattle.leasereply.specs.Reply.{other_reply, active_reply, addresses_of, listed, fitting}
 use Rattle.leasequery.specs.Answer.{refusal, reply, has_key, by_address_of, by_client_of, leases_of, answer_by, asked_of, answer}
-use Rattle.leasequery.specs.Stages.{padded, id_key, refusal_in, key_for, no_candidates, asked_at, other_of, active_of, concluded}
+use Rattle.leasequery.specs.Stages.{padded, id_key, refusal_in, key_for, no_candidates, start_for, asked_at, other_of, active_of, concluded}
 use Rattle.leasequery.proofs.StageLaws.{padded_laid, con_refused, con_unknown, con_client, con_active, con_unassigned}
 
 -- ---- keys
@@ -88,10 +90,10 @@ module _ (clock : Moment) (server : ℕ) (ps os : List ℕ) (a : 240 ≤ length 
   unfolding by_client_of head_d no_lease
   client_out k c h [] r = con_unknown h server ps os r.refusal_is (ap (λ (x : Lease). x.address) r.best_is) ∙ other_is 12
   client_out k c h (x ∷ []) r =
-      con_client h server ps os r.refusal_is (there h x r.best_is r.above) (λ z. c (sym r.kind_is_lem ∙ z))
+      con_client h server ps os r.refusal_is (there h x r.best_is r.above) (λ z. c (sym r.kind_is ∙ z))
       ∙ active_is h h.kept x [] r.clock_is r.best_is (listed_one h.kept h.ranks (omega (arith, r.kept_is)))
   client_out k c h (x ∷ y ∷ ys) r =
-      con_client h server ps os r.refusal_is (there h x r.best_is r.above) (λ z. c (sym r.kind_is_lem ∙ z))
+      con_client h server ps os r.refusal_is (there h x r.best_is r.above) (λ z. c (sym r.kind_is ∙ z))
       ∙ active_is h h.kept x (take 63 (map (λ z. z.address) (x ∷ y ∷ ys))) r.clock_is r.best_is
       (listed_more h.kept h.ranks (omega (arith, r.kept_is)) (omega (arith, r.kept_is)) ∙ ap addresses_of r.ranks_are ∙ map_take_addresses 63 (x ∷ y ∷ ys))
 
@@ -161,3 +163,10 @@ answered clock ys server ps os =
     let s = asked_sound clock ys ps (length os) in
     ap (λ (key : Asked). concluded (looked (no_candidates clock (refusal_in key) (key_for key)) ys) server ps os) (same_asked clock ys ps (length os))
     ∙ by_asked clock server ps os ys (asked_of clock ys ps (length os)) s.0 s.1
+
+-- the call by its parts: the form of the table, what is looked for in it, and what is found
+pub comes_to : (clock : Moment) (ys : List Lease) (server : ℕ) (ps os : List ℕ) {f g : Form} {a : Candidates} {h : Found} → f ≡ form_start (length ys) → g ≡ form_from f ys → a ≡ start_for clock (asked_at clock g.ok ps (length os)) → h ≡ looked a ys → concluded h server ps os ≡ answer clock ys server ps (length os)
+comes_to clock ys server ps os p q r s =
+    ap (λ (h : Found). concluded h server ps os)
+    (s ∙ ap (λ (a : Candidates). looked a ys) (r ∙ ap (λ (g : Form). start_for clock (asked_at clock g.ok ps (length os))) (q ∙ ap (λ (f : Form). form_from f ys) p)))
+    ∙ answered clock ys server ps os

@@ -105,6 +105,7 @@ fn refusal_of(p: &[u8], q: Query) -> u32
 }
 
 // Nothing is found yet.
+#[tactic(auto, unfolding(crate::specs::Stages::no_candidates))]
 fn start(clock: Moment, refusal: u32, key: Key) -> Candidates
     ensures { result ≡ no_candidates clock refusal key }
 {
@@ -123,6 +124,7 @@ fn start(clock: Moment, refusal: u32, key: Key) -> Candidates
 }
 
 // The refusals in their order: 15, 9, 8, then those of the packet.
+#[tactic(auto, using(leasepacket::proofs::ReadingLaws::read_asks), unfolding(crate::specs::Stages::asked_at, leasepacket::specs::Query::first_of))]
 fn first_refusal(clock: Moment, ok: bool, p: &[u8], room: usize) -> Query
     ensures { asked p.now result ≡ asked_at clock ok p.now room }
 {

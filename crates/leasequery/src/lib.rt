@@ -1,4 +1,7 @@
 // The lease query: a packet, the lease table, and the reply. The one call that others make.
+
+#![tactic(auto)]
+
 ghost use Rattle.leasequery.specs.Promise.{LeasePromise};
 
 use clock::Moment;
@@ -20,8 +23,7 @@ pub struct LeaseAnswer {
 
 // Answers a lease query at a moment, over a lent table, for the server of an address. The reply is
 // written to the front of the buffer.
-#[unsafe(no_mangle)]
-pub extern "C" fn jespurla_lease_query(
+pub fn jespurla_lease_query(
     clock: Moment,
     table: &[Lease],
     server: u32,
