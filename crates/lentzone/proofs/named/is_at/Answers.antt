@@ -9,7 +9,7 @@ pub returns-then-z-ne-ZONE_SIZE : goal.returns-then-z-ne-ZONE_SIZE
 returns-then-z-ne-ZONE_SIZE c = named_zeros _ _ (row_no_zone _ _ c.if-z-ne-ZONE_SIZE.true)
 
 pub returns-then-place-ge64 : goal.returns-then-place-ge64
-returns-then-place-ge64 c = named_zeros _ _ (row_no_place _ _ c.if-place-ge64.true)
+returns-then-place-ge64 c = named_zeros _ _ (row_no_place c.args.z.now c.args.place (omega arith))
 
 pub returns : goal.returns
 returns c =
@@ -17,4 +17,4 @@ returns c =
     let k : s.place * 374 + 374 - s.place * 374 ≡ 374 = omega arith in
     c.is_named.ensures
     ∙ ap (λ (m : ℕ). named s.n.now (entry_in (take m (drop (s.place * 374) s.z.now)))) k
-    ∙ ap (λ (x : List ℕ). named s.n.now (entry_in x)) (row_there s.z.now s.place c.if-z-ne-ZONE_SIZE.false c.if-place-ge64.false)
+    ∙ ap (λ (x : List ℕ). named s.n.now (entry_in x)) (row_there s.z.now s.place c.if-z-ne-ZONE_SIZE.false (omega arith))
