@@ -33,7 +33,8 @@
  * Calls that write one zone or one buffer are to be made one after the other.
  *
  * What the archive needs: memcpy, memmove and memset of a C library or of your own, and a stack. It
- * allocates nothing and reads neither clock nor files. It is for Linux on x86-64.
+ * allocates nothing and reads neither clock nor files. It is for Linux on x86-64, on a processor with
+ * the instructions of x86-64-v2.
  */
 #ifndef JESPURLA_H
 #define JESPURLA_H
