@@ -14,7 +14,7 @@ use request::lent::RequestAnswer;
 // refusal: the number of document 01's table, 0 where there is none; 17 too where the octets are not
 // 23,936.
 #[repr(C)]
-#[derive(Drop)]
+#[derive(Clone, Copy)]
 pub struct StepAnswer {
     pub refusal: u32,
     pub job: Job,
@@ -126,8 +126,7 @@ fn refuse(octets: &mut [u8], job: Job) -> StepAnswer
 }
 
 // One step.
-#[unsafe(no_mangle)]
-pub extern "C" fn jespurla_job_step_lent(octets: &mut [u8], job: Job) -> StepAnswer
+pub fn jespurla_job_step_lent(octets: &mut [u8], job: Job) -> StepAnswer
     ensures { StepPromiseIn octets.old job octets.new result }
 {
     if !stage::are_numbers_listed(job) {

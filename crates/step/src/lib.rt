@@ -1,5 +1,8 @@
 // The step of a job: the one request that its stage asks for, and where the answer leads. The zone is
 // known by the promises of its requests alone.
+
+#![tactic(auto)]
+
 pub mod lent;
 
 ghost use Rattle.std.specs.Prelude.{◌≡◌, true, false};
@@ -19,7 +22,7 @@ const UNLISTED_NUMBER: u32 = 18;
 
 // refusal: the number of document 01's table, 0 where there is none.
 #[repr(C)]
-#[derive(Drop)]
+#[derive(Clone, Copy)]
 pub struct Stepped {
     pub refusal: u32,
     pub zone: Zone,
@@ -138,8 +141,7 @@ fn refuse(zone: Zone, job: Job) -> Stepped
 }
 
 // One step. The zone's form is checked once, by the request or by the check alone.
-#[unsafe(no_mangle)]
-pub extern "C" fn jespurla_job_step(zone: Zone, job: Job) -> Stepped
+pub fn jespurla_job_step(zone: Zone, job: Job) -> Stepped
     ensures { StepPromise zone job result }
 {
     if !stage::are_numbers_listed(job) {

@@ -1,0 +1,14 @@
+use Rattle.std.proofs.Common.{◌+◌, ◌<◌, arith}
+use Rattle.job.specs.Jobs.{after}
+use Rattle.step.proofs.StepLaws.{count_a, numbers_zero, step_at_a, step_kept}
+use Rattle.step.proofs.step_a.Goals as goal
+
+pub overflow_add-job : goal.overflow_add-job
+overflow_add-job c = let h : c.args.job.count < 6 = count_a c.args.job c.requires.0 c.requires.1 in omega arith
+
+pub returns : goal.returns
+returns c =
+    let z = c.args.zone in
+    let j = c.args.job in
+    let sent = c.jespurla_request_a-sent in
+    step_kept z j 0 _ (after (j.count + 1)) sent.result c.after_add-next.result c.carried.result c.requires.0 (numbers_zero j c.requires.0) (step_at_a z j c.requires.1) sent.ensures c.after_add-next.ensures c.carried.ensures
