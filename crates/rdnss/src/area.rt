@@ -35,6 +35,7 @@ fn is_whole(area: &[u8]) -> bool
 }
 
 // Whether an area is no longer than an area may be, and whole: refusal 16 is for those that are not.
+#[tactic(auto, unfolding(crate::specs::Area::is_area))]
 pub(crate) fn is_area(area: &[u8]) -> bool
     ensures { result ≡ is_area area.now }
 {

@@ -1,4 +1,7 @@
 // The server list call: the options of a router's area, applied to the DNS server list of RFC 5006.
+
+#![tactic(auto)]
+
 pub mod area;
 pub mod option;
 
@@ -38,6 +41,7 @@ fn is_router_lifetime(router: Span) -> bool
 }
 
 // The refusals in their order; 0 where none applies.
+#[tactic(auto, unfolding(crate::specs::ServerList::first_refusal))]
 fn first_refusal(sound: bool, timely: bool, lasting: bool, whole: bool) -> u32
     ensures { result ≡ first_refusal sound timely lasting whole }
 {
@@ -60,8 +64,7 @@ fn first_refusal(sound: bool, timely: bool, lasting: bool, whole: bool) -> u32
 // that is not sound (31), a clock above clock::LATEST or behind the list's (15), a router lifetime
 // above 65,535 (15), and an area of more than 1,500 octets, or with an option of Length 0 or past the
 // end (16): the area is tested whole before anything is applied.
-#[unsafe(no_mangle)]
-pub extern "C" fn jespurla_server_list(
+pub fn jespurla_server_list(
     list: ServerList,
     clock: Moment,
     router: Span,

@@ -111,6 +111,7 @@ fn name_all(l: ServerList, v: &[u8], n: usize, x: Moments) -> ServerList
 }
 
 // Whether an option acts: Type 25 with odd Length of at least 3.
+#[tactic(auto, unfolding(crate::specs::Area::is_acting))]
 fn is_acting(option: &[u8]) -> bool
     ensures { result ≡ is_acting option.now }
 {
