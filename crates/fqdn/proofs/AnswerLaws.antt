@@ -3,15 +3,12 @@ use mathlib.Core.Path.{◌≡◌, refl}
 use mathlib.Core.List.{List, [], ◌∷◌}
 use Prim.Native.Nat.{ℕ, ◌+◌, ◌≤◌, ◌<◌}
 use native.Mathlib.Omega.{arith}
-use types.Run.{OneOf, miss}
-use denote.Enum.Declared.{tag_of}
 use lib.ListN.{length, get_or, drop}
 use borrow.Author.Tests.{lt-ltb, le-ltb, eq-eqb, ne_eqb}
 use Rattle.octets.specs.Write.{laid}
 use Rattle.dname.specs.Name.{shape_of}
 use Rattle.dname.specs.declared.Shape.{Shape}
 use Rattle.dname.specs.declared.Shape.TheVariants.{Empty, Full, Partial, Malformed}
-use Rattle.dname.specs.contracts.Shape.{the_type}
 use Rattle.fqdn.specs.Flags.{flag_answer}
 use Rattle.fqdn.specs.Answer.{by_name, by_suffix, by_flags, by_value, answer_of, octets_of, result_of, Answered}
 use Rattle.fqdn.specs.declared.answer.NameAnswer.{NameAnswer}
@@ -49,10 +46,10 @@ module _ (decision : FlagAnswer) (name suffix : List ℕ) where
 
 module _ (flags : ℕ) (name suffix : List ℕ) where
   -- a suffix of any shape but full
-  pub suffix_refused : (t : Shape) → OneOf (0 ∷ 2 ∷ 3 ∷ []) (tag_of the_type t) → by_suffix t flags name suffix ≡ Refused 11
+  pub suffix_refused : (t : Shape) → ¬ (t ≡ Full) → by_suffix t flags name suffix ≡ Refused 11
   unfolding by_suffix
   suffix_refused Empty k = refl
-  suffix_refused Full k = absurd (miss (0 ∷ 2 ∷ 3 ∷ []) 1 tt k)
+  suffix_refused Full k = absurd (k refl)
   suffix_refused Partial k = refl
   suffix_refused Malformed k = refl
 

@@ -2,13 +2,14 @@
 use mathlib.Core.Path.{◌≡◌, refl, sym, ap, ◌∙◌}
 use mathlib.Core.Bool.{Bool, true, false, not, cond, ◌&&◌, ◌||◌, beq}
 use mathlib.Core.List.{List, [], ◌∷◌, map}
+use mathlib.Core.Logic.{◌⊎◌, inl, inr}
 use Prim.Native.Nat.{ℕ, zero, suc, ◌+◌, ◌*◌, ◌/◌, ◌%◌, ◌<◌, ◌≤◌, min}
 use native.Mathlib.Nat.{zero-add}
 use native.Mathlib.Omega.{arith}
 use lib.Bits.{bit_and, bit_or, and_mod, and_le_r}
 use lib.Dec.{eqb}
 use lib.ListN.{get_or, get_or-map}
-use borrow.Author.Tests.{ne_eqb}
+use borrow.Author.Tests.{eq-eqb, ne_eqb}
 use Rattle.fqdn.specs.Flags.{sent, R, honoured, flag_table, flag_answer}
 use Rattle.fqdn.specs.declared.flags.FlagAnswer.{FlagAnswer}
 
@@ -110,3 +111,40 @@ unfolding flag_answer
 by_steps flags s n =
     at_parts (flags % 8) (honoured s) (honoured n) (omega arith) (honoured_most s) (honoured_most n)
     ∙ rw (low_bit flags 1 (omega arith), low_bit flags 2 (omega arith), low_bit flags 4 (omega arith), may_honoured s, may_honoured n)
+
+-- ---- the ways through the code, by the numbers that it tests
+
+pub refused_o : (flags s n : ℕ) → ¬ (bit_and flags 2 ≡ 0) → R ≡ flag_answer flags s n
+refused_o flags s n h = sym (by_steps flags s n ∙ simp (ne_eqb _ _ h))
+
+pub refused_both : (flags s n : ℕ) → bit_and flags 2 ≡ 0 → (¬ (bit_and flags 4 ≡ 0)) × (¬ (bit_and flags 1 ≡ 0)) → R ≡ flag_answer flags s n
+refused_both flags s n o b = sym (by_steps flags s n ∙ simp (eq-eqb _ _ o, ne_eqb _ _ b.0, ne_eqb _ _ b.1))
+
+pub not_refused : (flags : ℕ) → bit_and flags 2 ≡ 0 → (¬ (bit_and flags 4 ≡ 0) × (bit_and flags 1 ≡ 0)) ⊎ (bit_and flags 4 ≡ 0)
+    → is_refused (is_set flags 1) (is_set flags 2) (is_set flags 4) ≡ false
+not_refused flags o (inl b) = simp (eq-eqb _ _ o, ne_eqb _ _ b.0, eq-eqb _ _ b.1)
+not_refused flags o (inr b) = simp (eq-eqb _ _ o, eq-eqb _ _ b)
+
+-- a bit that the client sets is granted if it may be honoured
+pub granted : (flags weight number : ℕ) → ¬ (bit_and flags weight ≡ 0) → ¬ (number ≡ 0) → (is_set flags weight && may number) ≡ true
+granted flags weight number b h = simp (ne_eqb _ _ b, ne_eqb _ _ h)
+
+pub not_granted : (flags weight number : ℕ) → (¬ (bit_and flags weight ≡ 0) × (number ≡ 0)) ⊎ (bit_and flags weight ≡ 0) → (is_set flags weight && may number) ≡ false
+not_granted flags weight number (inl b) = simp (ne_eqb _ _ b.0, eq-eqb _ _ b.1)
+not_granted flags weight number (inr b) = simp (eq-eqb _ _ b)
+
+-- the bits of the answer: N granted; N not granted, with t the S that is granted
+pub with_n : (flags honour_s honour_n : ℕ) (s o n : Bool) → s ≡ false → o ≡ false → n ≡ true → (is_set flags 4 && may honour_n) ≡ true
+    → with_bits s o n ≡ cond (is_set flags 4 && may honour_n) (with_bits false false true) (otherwise (is_set flags 1 && may honour_s) (is_set flags 1))
+with_n flags honour_s honour_n s o n e f g h = rw (e, f, g, h)
+
+pub without_n : (flags honour_s honour_n : ℕ) (s o n t : Bool) → s ≡ t → o ≡ not (beq t (is_set flags 1)) → n ≡ false → (is_set flags 4 && may honour_n) ≡ false
+    → t ≡ (is_set flags 1 && may honour_s)
+    → with_bits s o n ≡ cond (is_set flags 4 && may honour_n) (with_bits false false true) (otherwise (is_set flags 1 && may honour_s) (is_set flags 1))
+without_n flags honour_s honour_n s o n t e f g h k = rw (e, f, g, h, k)
+
+pub answered : (flags honour_s honour_n : ℕ) (s o n : Bool) (x y z : ℕ) → x ≡ cond s 1 0 → y ≡ cond o 2 0 → z ≡ cond n 4 0
+    → is_refused (is_set flags 1) (is_set flags 2) (is_set flags 4) ≡ false
+    → with_bits s o n ≡ cond (is_set flags 4 && may honour_n) (with_bits false false true) (otherwise (is_set flags 1 && may honour_s) (is_set flags 1))
+    → sent (bit_or (bit_or x y) z) ≡ flag_answer flags honour_s honour_n
+answered flags honour_s honour_n s o n x y z e f g h k = rw (e, f, g, by_steps flags honour_s honour_n, h) k

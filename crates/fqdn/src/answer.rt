@@ -8,7 +8,7 @@ use dname::Shape;
 use octets::write;
 
 // What an option value and a suffix come to.
-#[derive(Drop)]
+#[derive(Clone, Copy)]
 pub enum NameAnswer {
     // Refused, with the refusal's number.
     Refused(u8),
@@ -21,7 +21,7 @@ pub enum NameAnswer {
 // What the call answers. refusal: 0 where there is none. length: how many octets of the reply are
 // written, 0 beside a refusal.
 #[repr(C)]
-#[derive(Drop)]
+#[derive(Clone, Copy)]
 pub struct NameOptionAnswer {
     pub refusal: u32,
     pub length: u32,
@@ -85,8 +85,7 @@ fn put_name(reply: &mut [u8], flags: u8, value: &[u8], tail: &[u8]) -> NameOptio
 // The server's answer to the value of a name option: writes the flags octet and the completed name
 // to the front of the reply and answers how many octets those are, or leaves the reply as it is and
 // answers a refusal. A number other than 0 says that S, or N, may be honoured.
-#[unsafe(no_mangle)]
-pub extern "C" fn jespurla_name_option_answer(
+pub fn jespurla_name_option_answer(
     value: &[u8],
     suffix: &[u8],
     honour_s: u8,

@@ -5,7 +5,7 @@ ghost use Rattle.fqdn.specs.Flags.{flag_answer};
 // The answer to a client's flags octet. refusal: 0 where there is none. flags: the flags octet to
 // send, 0 beside a refusal.
 #[repr(C)]
-#[derive(Drop)]
+#[derive(Clone, Copy)]
 pub struct FlagAnswer {
     pub refusal: u32,
     pub flags: u32,
@@ -29,8 +29,7 @@ fn bit(set: bool, weight: u8) -> u32
 
 // The flags octet of the server's answer to a client's flags octet, or refusal 10. A number other
 // than 0 says that S, or N, may be honoured. The sections are those of RFC 4704.
-#[unsafe(no_mangle)]
-pub extern "C" fn jespurla_flag_decision(flags: u8, honour_s: u8, honour_n: u8) -> FlagAnswer
+pub fn jespurla_flag_decision(flags: u8, honour_s: u8, honour_n: u8) -> FlagAnswer
     ensures { result ≡ flag_answer flags honour_s honour_n }
 {
     // Section 4.1: the client's bits. Those above N are not looked at.
