@@ -321,19 +321,8 @@ module _ (clock : Moment) (server : ℕ) (q : List ℕ) (x : Lease) (bs : List �
   stands : (code : ℕ) → values code active_options ≡ sent code → values_in code (active_reply clock server q x bs) ≡ sent code
   stands code e = ap (values_in code) active_is ∙ its_values q x.htype x.hlen (big_endian 4 x.address) x.chaddr active_options active_sound code ∙ e
 
-  stands_all : (code : ℕ) → OnlyIfListed code → values_in code (active_reply clock server q x bs) ≡ sent code
+  pub stands_all : (code : ℕ) → OnlyIfListed code → values_in code (active_reply clock server q x bs) ≡ sent code
   stands_all code (inl e) = rw e (stands 51 values_51)
   stands_all code (inr (inl e)) = rw e (stands 61 values_61)
   stands_all code (inr (inr (inl e))) = rw e (stands 82 values_82)
   stands_all code (inr (inr (inr e))) = rw e (stands 91 values_91)
-
-  pub lacks_active : (code : ℕ) → OnlyIfListed code → is_requested q code ≡ false → values_in code (active_reply clock server q x bs) ≡ []
-  lacks_active code o r = stands_all code o ∙ rw r
-
-  pub has_active : (code : ℕ) → OnlyIfListed code → is_requested q code ≡ true → values_in code (active_reply clock server q x bs) ≡ values code (held code (said code))
-  unfolding values
-  has_active code o r = stands_all code o ∙ rw r (own (said code))
-    where
-      own : (v : List ℕ) → only v ≡ values code (held code v)
-      own [] = refl
-      own (y ∷ ys) = rw (eq-eqb code code refl)

@@ -11,6 +11,7 @@ use borrow.Author.Tests.{eq-eqb, leb-true}
 use lib.Dec.{leb, eqb}
 use lib.ListN.{length, get_or, take, drop, length-take, length-map}
 use lib.Seq.{take-append_seam}
+use Rattle.clock.specs.declared.Moment.{Moment}
 use Rattle.clock.specs.declared.Span.{Span}
 use Rattle.clock.specs.Clock.{seconds_left, seconds_since}
 use Rattle.octets.specs.Write.{laid}
@@ -18,12 +19,14 @@ use Rattle.octets.proofs.BoolLaws.{and_left, and_right}
 use Rattle.lease.specs.declared.Lease.{Lease}
 use Rattle.lease.specs.Lease.{no_lease, active_at, well_formed, lengths_fit, moments_fit, hardware_fits}
 use Rattle.leasepacket.specs.Packet.{xid, hlen}
-use Rattle.leasepacket.specs.Options.{values_in}
+use Rattle.leasepacket.specs.Options.{values, values_in}
 use Rattle.leasepacket.specs.Requested.{request_list, requested_by, is_requested}
 use Rattle.leasepacket.specs.Query.{Asked, refused, by_address, by_hardware, by_client_id, asking}
+use Rattle.leasepacket.specs.ReplyOptions.{held}
 use Rattle.leasepacket.proofs.QueryLaws.{NotRefused, asked_fits, asking_sound, Sound}
+use Rattle.leasepacket.proofs.SentLaws.{only}
 use Rattle.leasetable.specs.Table.{table_fits, those, ranked}
-use Rattle.leasereply.specs.Reply.{other_reply, active_reply}
+use Rattle.leasereply.specs.Reply.{of_lease, other_reply, active_reply}
 use Rattle.leasequery.specs.Answer.{Outcome, refusal, reply, told, written, has_key, leases_of, by_address_of, by_client_of, answer_by}
 use Rattle.leaseclaims.specs.Claims.{Call, ActiveAt}
 use Rattle.leaseclaims.proofs.ListLaws.{StandsAt, AllStand, those_stand, ranked_stand}
@@ -36,7 +39,7 @@ use Rattle.deskclaims.specs.Asks.{Address}
 use Rattle.deskclaims.specs.RoundTrip.{Typed, AllTyped, replied, ReadBack, time_for, from_query, from_lease, ReadsQuery, NotListed, AbsentExactly, ReadsLease, RoundTrip}
 use Rattle.deskclaims.specs.Listed.{OnlyIfListed, SendsOnlyListed, InFull, AnsweredInFull}
 use Rattle.deskclaims.proofs.Asks.{asks_for_all}
-use Rattle.deskclaims.proofs.KindLaws.{AllAddress, Formed, Given, lacks_other, reads_other, reads_active, lacks_active, has_active}
+use Rattle.deskclaims.proofs.KindLaws.{AllAddress, Formed, Given, lacks_other, reads_other, reads_active, stands_all}
 
 -- ---- what is known of the records of a table
 typed_at : (t : List Lease) → AllTyped t → (i : ℕ) → i < length t → Typed (get_or t i no_lease)
@@ -240,6 +243,19 @@ module _ (c : Call) (d : ReadBack c) (r : c.result.refusal ≡ 0) where
   by_outcome a f (refusal n) e b = absurd b
   by_outcome a f (reply kind octets) e (inl o) = inl (from_other kind octets e o.number o.are)
   by_outcome a f (reply kind octets) e (inr o) = inr (from_active a f kind octets e o)
+
+-- ---- a reply about an active lease, and an option that goes out only if it is listed
+module _ (clock : Moment) (server : ℕ) (q : List ℕ) (x : Lease) (bs : List ℕ) (long : 240 ≤ length q) (f : Formed x) (g : Given bs) where
+  lacks_active : (code : ℕ) → OnlyIfListed code → is_requested q code ≡ false → values_in code (active_reply clock server q x bs) ≡ []
+  lacks_active code o r = stands_all clock server q x bs long f g code o ∙ rw r
+
+  has_active : (code : ℕ) → OnlyIfListed code → is_requested q code ≡ true → values_in code (active_reply clock server q x bs) ≡ values code (held code (of_lease clock server x bs code))
+  unfolding values
+  has_active code o r = stands_all clock server q x bs long f g code o ∙ rw r (own (of_lease clock server x bs code))
+    where
+      own : (v : List ℕ) → only v ≡ values code (held code v)
+      own [] = refl
+      own (y ∷ ys) = rw (eq-eqb code code refl)
 
 -- ---- what was not listed is not sent
 -- it is neither the kind nor the server's address
