@@ -1,4 +1,7 @@
 // The answer of the server list call as lines of text, as the program `servers` prints it.
+
+#![tactic(auto)]
+
 ghost use Rattle.std.specs.Prelude.{◌*◌, ◌≤◌, min, ◌≡◌, take};
 ghost use Rattle.octets.specs.Write.{Laid};
 ghost use Rattle.entries.specs.Entries.{places};
@@ -93,6 +96,7 @@ pub fn put_answer(buf: &mut [u8], at: usize, answer: ServerListAnswer) -> usize
 
 // What the program prints for an area: the lines of the answer to it, on a list without servers at
 // clock 0, from a router with a lifetime of half an hour.
+#[tactic(auto, unfolding(crate::specs::Lines::area_lines))]
 pub fn put_area(buf: &mut [u8], area: &[u8]) -> usize
     ensures { Laid buf.old 0 (area_lines area.now) buf.new result }
 {
