@@ -135,6 +135,11 @@ module _ (clock : Moment) (server : ℕ) (ps os : List ℕ) (t : List Lease) whe
   by_asked (by_hardware htype hlen o) s b = by_client clock server ps os s.0 (b refl).0 (by_hardware htype hlen o) (key_for (by_hardware htype hlen o)) (omega arith) (λ x. hardware_key_lem htype hlen o x s.1 s.2) t (b refl).1
   by_asked (by_client_id o) s b = by_client clock server ps os s (b refl).0 (by_client_id o) (id_key o) (id_kind o) (id_key_lem o) t (b refl).1
 
+-- the form that the scan found is that of the table
+same_asked : (clock : Moment) (t : List Lease) (ps : List ℕ) (room : ℕ) → asked_at clock (form_of t).ok ps room ≡ asked_of clock t ps room
+unfolding asked_at asked_of first_of
+same_asked clock t ps room = rw (form_whole t)
+
 -- what is asked is sound, and with no refusal the buffer is long enough and the addresses rise
 fit_rises : (t : List Lease) → not (table_fits t) ≡ false → rises_from 0 t ≡ true
 unfolding table_fits
@@ -152,10 +157,6 @@ asked_sound clock t ps room =
     (λ e. cases (not (table_fits t)) (λ f. rw (e, f) ((λ z. omega (arith, z)), (λ z. absurd (omega (arith, z)))))
     (λ f. cases (ltb room 648) (λ g. rw (e, f, g) ((λ z. omega (arith, z)), (λ z. absurd (omega (arith, z)))))
     (λ g. rw (e, f, g) (asking_sound ps, (λ z. (ltb-false room 648 g, fit_rises t f))))))
-
-same_asked : (clock : Moment) (t : List Lease) (ps : List ℕ) (room : ℕ) → asked_at clock (form_of t).ok ps room ≡ asked_of clock t ps room
-unfolding asked_at asked_of first_of
-same_asked clock t ps room = rw (form_whole t)
 
 pub answered : (clock : Moment) (ys : List Lease) (server : ℕ) (ps os : List ℕ) → concluded (looked (no_candidates clock (refusal_in (asked_at clock (form_of ys).ok ps (length os))) (key_for (asked_at clock (form_of ys).ok ps (length os)))) ys) server ps os ≡ answer clock ys server ps (length os)
 unfolding answer
