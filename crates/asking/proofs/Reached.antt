@@ -17,7 +17,7 @@ use Rattle.serial.specs.P12.{pipe, x_removes, x_adds, y_adds}
 use Rattle.serial.proofs.Running.{taken}
 use Rattle.serial.proofs.P12Zones.{small, full, clear, full_value, full_formed}
 use Rattle.serial.proofs.P12Runs.{kx, ky, new_x_lem, new_y_lem, y_is, x_values, y_values}
-use Rattle.asking.specs.Asking.{begun, unfinished, deletions, Add, stage, requests, deleted_between}
+use Rattle.asking.specs.Asking.{begun, unfinished, deletions, Add, requests, deleted_between}
 use Rattle.asking.specs.Reached.{Reached, AllReached, Tight}
 use Rattle.serial.proofs.XAdds.{kx⁺, new_x⁺, x⁺-values}
 use Rattle.asking.proofs.Rounds.{kx₃, kx⁺₂, So, YAt, Octet, within, leaves, adds_again, round, back_is, p12, refused_is}

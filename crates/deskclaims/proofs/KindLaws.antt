@@ -1,5 +1,5 @@
 -- What the desk reads of the replies that the box writes, by their kind. Assumes nothing.
-use Prim.Native.Nat.{ℕ, zero, suc, ◌+◌, ◌*◌, ◌/◌, ◌%◌, ◌≤◌, ◌<◌}
+use Prim.Native.Nat.{ℕ, zero, suc, ◌*◌, ◌/◌, ◌%◌, ◌≤◌, ◌<◌}
 use mathlib.Core.Path.{◌≡◌, refl, ap, ◌∙◌}
 use mathlib.Core.Bool.{Bool, true, false, cond}
 use mathlib.Core.List.{List, [], ◌∷◌, ◌++◌, append-nil}
@@ -23,7 +23,7 @@ use Rattle.leasepacket.specs.Options.{Opt, values, values_in}
 use Rattle.leasepacket.specs.Grammar.{Code}
 use Rattle.leasepacket.specs.Layout.{encoded}
 use Rattle.leasepacket.specs.Requested.{is_requested}
-use Rattle.leasepacket.specs.ReplyOptions.{Lengths, in_every, in_kind, held, sent_by}
+use Rattle.leasepacket.specs.ReplyOptions.{Lengths, in_every, in_kind, sent_by}
 use Rattle.leasepacket.proofs.QueryLaws.{part_length}
 use Rattle.leasepacket.proofs.SentLaws.{Codes, only, only_some, sent_codes, under, sent_values}
 use Rattle.leasereply.specs.Reply.{fixed, options_of, of_server, of_lease, flat, other_reply, active_reply}

@@ -13,12 +13,12 @@ use borrow.Author.Tests.{eq-eqb, ne_eqb}
 use Rattle.dname.specs.Name.{key}
 use Rattle.octets.specs.Count.{Octets}
 use Rattle.addresses.specs.Addresses.{four}
-use Rattle.update.specs.Rules.{Zone, Form, keep_others, Answer, success, NXDOMAIN, YXDOMAIN, YXRRSET, NXRRSET, request_a, fits, request_b, remove_address, remove_name}
+use Rattle.update.specs.Rules.{Zone, Form, keep_others, Answer, success, NXDOMAIN, YXDOMAIN, YXRRSET, NXRRSET, request_a, request_b, remove_address, remove_name}
 use Rattle.job.specs.Jobs.{Kind, add, remove, Arguments, End, gave_up, not_ours, gone, kept, Stage, before_a, before_b, before_first, before_second, ended, Job, first_stage, fresh, after, passed, after_first, after_second, step, sent}
 use Rattle.serial.specs.Steps.{Calls, Promises, end_at, going, Fresh, no_job, one_more, Steps, start, stepped, refused, own_steps, ChangedNothing, AtFirst, EndedFirst}
 use Rattle.serial.specs.Order.{is_left_out, times, StandsOnce, In, Before, InTurn, nobody, next, Explains}
 use Rattle.serial.specs.Demand.{Story, AsSeen, Demand3, Stronger, LeftOutIdle}
-use Rattle.update.proofs.ZoneLaws.{address, some≢none, option_case, zone_eq, put_off}
+use Rattle.update.proofs.ZoneLaws.{some≢none, option_case, zone_eq}
 use Rattle.serial.proofs.ListLaws.{set_same, set_other, set_which}
 use Rattle.serial.proofs.RequestLaws.{form_step, whole, whole_sends, placed, quiet}
 use Rattle.serial.proofs.OrderLaws.{serial, Agree, form_serial, times_in, times_some}

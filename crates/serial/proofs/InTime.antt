@@ -8,7 +8,7 @@ use Prim.Native.Nat.{ℕ, zero, suc, ◌≤◌, ◌<◌}
 use native.Mathlib.Omega.{arith}
 use lib.Dec.{eqb}
 use lib.ListN.{get_elem?}
-use Rattle.update.specs.Rules.{Zone, Answer, success, NXDOMAIN, YXDOMAIN, YXRRSET, NXRRSET, request_a, fits, request_b, remove_address, remove_name}
+use Rattle.update.specs.Rules.{Zone, Answer, success, NXDOMAIN, YXDOMAIN, YXRRSET, NXRRSET, request_a, request_b, remove_address, remove_name}
 use Rattle.job.specs.Jobs.{add, remove, Arguments, End, done, conflict, no_room, gave_up, not_ours, gone, kept, Stage, before_a, before_b, before_first, before_second, ended, Job, possible, fresh, after, passed, after_first, after_second, step, sent}
 use Rattle.serial.specs.Steps.{Calls, Promises, going, Fresh, no_job, one_more, Steps, start, stepped, refused, own_steps}
 use Rattle.serial.specs.Demand.{most, EndsInTime, NeverRefused, SixAtMost, Delivered}

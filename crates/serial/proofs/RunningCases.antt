@@ -6,7 +6,6 @@ use mathlib.Core.List.{List, [], ◌∷◌}
 use mathlib.Core.Logic.{inl, inr}
 use Prim.Native.Nat.{ℕ}
 use lib.ListN.{length}
-use Rattle.zone.specs.declared.Zone.{Zone}
 use Rattle.zone.specs.Meaning.{formed}
 use Rattle.update.specs.Rules as rules
 use Rattle.update.specs.Meaning.{zone_of}
