@@ -74,6 +74,7 @@ fn put_refusal(buf: &mut [u8], at: usize, refusal: u32) -> usize
 }
 
 // The lines of an answer, where there is room for them.
+#[tactic(auto, unfolding(crate::specs::Lines::answer_lines))]
 fn put_lines(buf: &mut [u8], at: usize, answer: ServerListAnswer) -> usize
     ensures { PutWithin 512 buf.old at (answer_lines answer) buf.new result }
 {
