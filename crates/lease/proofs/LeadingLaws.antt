@@ -8,6 +8,12 @@ use native.Mathlib.Omega.{arith}
 use lib.Dec.{eqb, ltb}
 use lib.ListN.{length, get_or, take, drop, drop_of_length-le}
 use lib.Seq.{drop-cons, take-take}
+use mir.Val.{Val}
+use mir.Syntax.{w8}
+use denote.Laws.{Is}
+use denote.Array.{Array}
+use denote.Plain.{UInt}
+use borrow.Author.Rules.{elem_Fits}
 use borrow.Table.Steps.{cases}
 use borrow.Author.Tests.{eq-eqb, ne_eqb, eqb-true, eqb-false, ltb-true, ltb-false}
 use Rattle.octets.specs.Compare.{same_octets}
@@ -110,6 +116,10 @@ lead_apart n a b h = cases (same_octets (take n a) (take n b)) (λ e. absurd (h 
 -- ---- the number says all of at most eight octets
 abbrev pub Octets : List ℕ → Type 0
 Octets l = (i : ℕ) → get_or l i 0 < 256
+
+-- an array that a function is given
+pub array_octets : (n : ℕ) (l : List ℕ) {vs : List Val} → Is (Array (UInt w8) n) l vs → Octets l
+array_octets n l p i = (elem_Fits w8 w8 l p.0 i p.1.1 tt).fits
 
 value_below : (n : ℕ) (l : List ℕ) → Octets l → value (take n l) < 256 ^ n
 unfolding value

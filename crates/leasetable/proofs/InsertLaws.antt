@@ -1,6 +1,7 @@
 -- The laws of putting a rank in its place, at a place of the loop. Assumes nothing.
 use mathlib.Core.Path.{◌≡◌, refl, sym, ◌∙◌, ap}
 use mathlib.Core.Bool.{true, false}
+use mathlib.Core.Logic.{◌⊎◌, inl, inr}
 use mathlib.Core.List.{List, [], ◌∷◌, ◌++◌, append_assoc}
 use Prim.Native.Nat.{ℕ, ◌+◌, ◌≤◌, ◌<◌}
 use native.Mathlib.Numerals.{add-one}
@@ -10,6 +11,11 @@ use lib.Seq.{drop-cons, take-suc, take-suc-set, take-set-lt, drop-set-lt, get_or
 use Rattle.lease.specs.declared.Rank.{Rank}
 use Rattle.lease.specs.Lease.{ranks_before}
 use Rattle.leasetable.specs.Folds.{placed_rank, inserted, no_rank}
+
+-- `⊎_elim` with the sum first, so that what each case has is known where the case is proved
+pub either : {A B C : Type 0} → A ⊎ B → (A → C) → (B → C) → C
+either (inl a) f g = f a
+either (inr b) f g = g b
 
 -- where the loop stands at i: the places passed, and what is left to insert into the others
 abbrev at : ℕ → List Rank → Rank → ℕ → List Rank

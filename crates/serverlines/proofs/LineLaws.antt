@@ -2,14 +2,15 @@
 use mathlib.Core.Path.{◌≡◌, refl, sym, ap, subst, ◌∙◌}
 use mathlib.Core.Bool.{Bool, true, false, cond}
 use mathlib.Core.List.{List, [], ◌∷◌, ◌++◌, append_assoc, append-nil}
-use Prim.Native.Nat.{ℕ, ◌+◌, ◌*◌, ◌≤◌, ◌<◌, min}
+use Prim.Native.Nat.{ℕ, ◌+◌, ◌-◌, ◌*◌, ◌≤◌, ◌<◌, min}
 use native.Mathlib.Omega.{arith}
 use native.Mathlib.Numerals.{add-one}
-use lib.Dec.{leb}
+use lib.Dec.{leb, eqb}
 use borrow.Author.Tests.{leb-true, leb-false}
 use lib.ListN.{length, take, drop, get_or, length-append}
 use lib.Seq.{take-suc, take_all, take_at, length-take-le}
 use Rattle.entries.specs.Entries.{expires}
+use Rattle.rdnss.specs.declared.ServerListAnswer.{ServerListAnswer}
 use Rattle.serverlist.specs.Servers.{servers, held}
 use Rattle.serverlist.specs.declared.Server.{Server}
 use Rattle.serverlist.specs.declared.ServerList.{ServerList}
@@ -17,7 +18,7 @@ use Rattle.octets.specs.Write.{put, laid_at, next_at, laid, Laid, Wrote, WroteIf
 use Rattle.octets.proofs.WriteLaws.{nothing, then, put_front, length_put, wrote_length}
 use Rattle.text.specs.Text.{ascii, decimal, hex}
 use Rattle.text.proofs.TextLaws.{decimal_is_short, two_an_octet}
-use Rattle.serverlines.specs.Lines.{line, server_line, server_lines, list_lines, refusal_line}
+use Rattle.serverlines.specs.Lines.{line, server_line, server_lines, list_lines, refusal_line, answer_lines}
 use Rattle.serverlines.specs.Inner.{PutWithin}
 
 -- a number of 64 bits has at most twenty digits
@@ -102,6 +103,14 @@ front {b} {ys} {lines} {n} e p =
     let k : length ys ≡ n = omega (arith, w.next) in
     let l : lines ≡ ys ++ drop (length ys) b = w.list ∙ put_front b ys in
     record { within = omega (arith, wrote_length w, w.fits); text = ap (take n) l ∙ take_at ys (drop (length ys) b) n k }
+
+pub answer_refused : (a : ServerListAnswer) → eqb a.refusal 0 ≡ false → answer_lines a ≡ refusal_line a.refusal
+unfolding answer_lines
+answer_refused a h = rw h
+
+pub answer_list : (a : ServerListAnswer) → eqb a.refusal 0 ≡ true → answer_lines a ≡ list_lines (held a.list)
+unfolding answer_lines
+answer_list a h = rw h
 
 -- the place that a writer answers lies in the buffer, if the one that it was given does
 pub next_within : {b : List ℕ} {at : ℕ} {ys l : List ℕ} {n : ℕ} → Laid b at ys l n → at ≤ length b → n ≤ length l
