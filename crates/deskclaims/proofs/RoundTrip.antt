@@ -246,10 +246,10 @@ module _ (c : Call) (d : ReadBack c) (r : c.result.refusal ≡ 0) where
 
 -- ---- a reply about an active lease, and an option that goes out only if it is listed
 module _ (clock : Moment) (server : ℕ) (q : List ℕ) (x : Lease) (bs : List ℕ) (long : 240 ≤ length q) (f : Formed x) (g : Given bs) where
-  lacks_active : (code : ℕ) → OnlyIfListed code → is_requested q code ≡ false → values_in code (active_reply clock server q x bs) ≡ []
+  pub lacks_active : (code : ℕ) → OnlyIfListed code → is_requested q code ≡ false → values_in code (active_reply clock server q x bs) ≡ []
   lacks_active code o r = stands_all clock server q x bs long f g code o ∙ rw r
 
-  has_active : (code : ℕ) → OnlyIfListed code → is_requested q code ≡ true → values_in code (active_reply clock server q x bs) ≡ values code (held code (of_lease clock server x bs code))
+  pub has_active : (code : ℕ) → OnlyIfListed code → is_requested q code ≡ true → values_in code (active_reply clock server q x bs) ≡ values code (held code (of_lease clock server x bs code))
   unfolding values
   has_active code o r = stands_all clock server q x bs long f g code o ∙ rw r (own (of_lease clock server x bs code))
     where

@@ -23,7 +23,7 @@ read_at at (by_client_id octets) = ByClientId at (length octets)
 unfoldable pub reading : List ℕ → Query
 reading p = read_at (id_place p) (asking p)
 
--- What a packet that was read so asks for; of `reading` this gives `asking` again (`read-asks` in proofs/ReadingLaws.antt).
+-- What a packet that was read so asks for; of `reading` this gives `asking` again (`read_asks` in proofs/ReadingLaws.antt).
 abbrev pub asked : List ℕ → Query → Asked
 asked p (Refused n) = refused n
 asked p (ByAddress a) = by_address a

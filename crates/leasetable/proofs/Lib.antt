@@ -5,3 +5,4 @@ pub mod CandidateLaws
 pub mod LookLaws
 pub mod InsertLaws
 pub mod Scan
+pub mod ScanWalk

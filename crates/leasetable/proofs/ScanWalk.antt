@@ -1,6 +1,6 @@
 -- A scan of a lent slice of structs: `if off(a) { return a; } let mut acc = a; let mut i = 0; while i < t.len() { let x = t[i]; i += 1; if wants(acc, x) { acc = add(acc, x); } } acc`,
 -- for any struct in the slice, any struct that is carried, any tests and any step. They and their laws are the parameters.
--- `meets` says that a function of this shape ensures `r ≡ cond (off a) a (foldl step a (now t.entry))`, where `step a x` is `cond (wants a x) (add a x) a`. Its proof cites `meets` and names the parameters.
+-- `meets` says that a function of this shape ensures `result ≡ cond (off a) a (foldl step a t.now)`, where `step a x` is `cond (wants a x) (add a x) a`. A proof of one by hand is a citation of `meets` that names the parameters.
 -- `walk` walks the MIR. Assumes nothing.
 use mathlib.Core.Path.{◌≡◌, refl, sym, ◌∙◌, ap, subst}
 use Prim.Native.Nat.{ℕ, ◌+◌, ◌-◌, ◌<◌, ◌≤◌, ◌^◌, ◌*◌, zero-le}
@@ -22,7 +22,7 @@ use base.Fraction.{full_share}
 use mir.Syntax.{Callee, Ty, Fn, Body, named, imm, w64, ty_int, ty_bool, ty_ptr, ty_ref, deref, field, place, unsigned, copy, int, local, value_local, skip as skipᴹ, seq, assign, block, loop, cond as condᴹ, exit, call, return, rv_opd, op2, add, mul, lt, offset}
 use mir.Val.{Val, WT, has_ty, vint, vbool, vptr}
 use base.Logic.{SProp, ent, sep, emp, via, fst∗, snd∗, ex_e, id⊢}
-use base.Fml.{Lft, GName, Share, Fml, ftrue, fat, froom, fdies, flft, fres, fshr_bor}
+use base.Fml.{Lft, Share, Fml, ftrue, fat, froom, fdies, flft, fhide}
 use prog.Model.{Model}
 use prog.Routine.{Routine, Env as Meanings}
 use prog.Wp.{Out, Env, after_seq, after_block, after_turn, Calls, Loops, Wp, at_return, WpFn, Closed, Tables}
@@ -32,16 +32,15 @@ use contract.Running.{Running, tables, tables_of}
 use types.Kit.{Item, ‵, raw, ◌⊛◌, ⋆, some, later, runs, any_q, at_ret, Sq, ◌$◌, ◌∵◌, !, qed, by, move, keep, drop, use1, split, join, pick, rewrite, fsplit, fjoin, suffices, frame, await, done}
 use types.Part.{whole, sub, look_in}
 use types.Run.{look, look_raw, store, init, forget, stop, hop, fld, from, load, lit, of_opd, bin, and_then, no_more, assigns, land, land_last, skips, branches, first, blocks, stays, leaves_loop, returns, enter, alloc1, alloc0, params1, pass1, pass0, free1, free0, exec, Below, again, loops, returns_within}
-use types.Share.{arr_parts}
 use sound.WpLaws.{fm_of, WpFn-mono}
 use denote.RattleType.{RattleType, owns}
 use denote.Laws.{Is, shows}
-use denote.Memory.{pointee, shares, lone, mem as memᴹ}
+use denote.Memory.{pointee, lone, mem as memᴹ}
 use denote.Plain.{bool_Lawful}
 use denote.Builtin.{bool}
 use denote.Ref.{Bor}
 use denote.Index.{place as placed, place_is, elem_out, elem_back, looks_slice, shuts_slice}
-use denote.Slice.{slice_ty, slice_val, ShrSlice, Room, shr_slice_at, coded_holeys, heres, shr_slice_vals, shr_slice_Tells}
+use denote.Slice.{slice_ty, slice_val, ShrSlice, Room, shr_slice_at, elements_shared, shr_slice_vals, shr_slice_Tells}
 use denote.Signature.{Signature, plain, shr_slice_of}
 use denote.Struct.Declared.{Declared, row, fields}
 use denote.Struct.Struct.{Plains}
@@ -176,17 +175,14 @@ module _ (TR : Declared) (LR : LL.Laws TR) (CR : LL.Copyables TR.parts) (PR : Pl
 
   -- what the slice reference owns, in parts
   abbrev Shared : Lft → ℕ → ℕ → List TR.D → Fml
-  Shared κ b o ys = fshr_bor κ (λ s. (arr_parts (shares R) (length ys)).part s ys b o)
+  Shared κ b o ys = fhide (elements_shared R ys b o κ)
 
-  abbrev Named : GName → List TR.D → Fml
-  Named γ ys = fres γ ((coded_holeys R).code (heres R ys))
-
-  abbrev Sized : ℕ → ℕ → GName → List TR.D → Fml
-  Sized b o γ ys = shr_slice_at R (record { ref_ptr = (b, o); now = ys }) (slice_val (b, o) (length ys) ∷ [])
+  abbrev Sized : ℕ → ℕ → List TR.D → Fml
+  Sized b o ys = shr_slice_at R (record { ref_ptr = (b, o); now = ys }) (slice_val (b, o) (length ys) ∷ [])
 
   -- what is left of it at exit, with the token
-  abbrev Lent : {M : Type 1} (𝓤 : Ura M) → Lft → Share → ℕ → ℕ → GName → List TR.D → List (Item 𝓤)
-  Lent 𝓤 κ q b o γ ys = ‵ (Shared κ b o ys) ∷ ‵ (flft κ q) ∷ ‵ (Named γ ys) ∷ ‵ (Sized b o γ ys) ∷ []
+  abbrev Lent : {M : Type 1} (𝓤 : Ura M) → Lft → Share → ℕ → ℕ → List TR.D → List (Item 𝓤)
+  Lent 𝓤 κ q b o ys = ‵ (Shared κ b o ys) ∷ ‵ (flft κ q) ∷ ‵ (Sized b o ys) ∷ []
 
   -- one element more is folded
   fold_more : (ys : List TR.D) (i : ℕ) (acc r : TS.D) → i < length ys → r ≡ step acc (get_or ys i d) → foldl step r (dropᴸ (i + 1) ys) ≡ foldl step acc (dropᴸ i ys)
@@ -194,8 +190,8 @@ module _ (TR : Declared) (LR : LL.Laws TR) (CR : LL.Copyables TR.parts) (PR : Pl
       ap (λ (z : TS.D). foldl step z (dropᴸ (i + 1) ys)) e
       ∙ sym (ap (foldl step acc) (drop-cons ys i d l ∙ ap (λ (k : ℕ). get_or ys i d ∷ dropᴸ k ys) (sym (add-one i))))
 
-  module _ {M : Type 1} {𝓤 : Ura M} (𝓛 : Logic 𝓤) (κ : Lft) (q : Share) (b o : ℕ) (γ : GName) (ys : List TR.D) (gn : Room R (length ys)) (a : TS.D) (va : Val) (ga : Is S a (va ∷ [])) (Post : Val → SProp 𝓤)
-      (exits : (r : TS.D) (v : Val) → Is S r (v ∷ []) → r ≡ foldl step a ys → ent 𝓤 (⋆ 𝓛 (Lent 𝓤 κ q b o γ ys)) (Post v)) where
+  module _ {M : Type 1} {𝓤 : Ura M} (𝓛 : Logic 𝓤) (κ : Lft) (q : Share) (b o : ℕ) (ys : List TR.D) (gn : Room R (length ys)) (a : TS.D) (va : Val) (ga : Is S a (va ∷ [])) (Post : Val → SProp 𝓤)
+      (exits : (r : TS.D) (v : Val) → Is S r (v ∷ []) → r ≡ foldl step a ys → ent 𝓤 (⋆ 𝓛 (Lent 𝓤 κ q b o ys)) (Post v)) where
     open 𝓛 use {H}
 
     abbrev n : ℕ
@@ -259,7 +255,7 @@ module _ (TR : Declared) (LR : LL.Laws TR) (CR : LL.Copyables TR.parts) (PR : Pl
       At t = ‵ (Shared κ b o ys) ∷ ‵ (flft κ q) ∷ ‵ (froom ty_bool l₁₁ 0) ∷ ‵ (fdies ty_bool l₁₁) ∷ ‵ (froom τR l₁₀ 0) ∷ ‵ (fdies τR l₁₀) ∷ ‵ (froom ty_ptr l₉ 0) ∷ ‵ (fdies ty_ptr l₉) ∷ ‵ (froom ty_bool l₈ 0) ∷ ‵ (fdies ty_bool l₈)
           ∷ ‵ (froom word l₇ 0) ∷ ‵ (fdies word l₇) ∷ ‵ (froom ty_bool l₆ 0) ∷ ‵ (fdies ty_bool l₆) ∷ ‵ (froom τR l₅ 0) ∷ ‵ (fdies τR l₅)
           ∷ ‵ (fat full_share word l₄ 0 (vint w64 t.i)) ∷ ‵ (fdies word l₄) ∷ ‵ (fat full_share τS l₃ 0 t.v) ∷ ‵ (fdies τS l₃) ∷ ‵ (fat full_share τS l₂ 0 va) ∷ ‵ (fdies τS l₂)
-          ∷ ‵ (fat full_share slice l₁ 0 (slice_val (b, o) n)) ∷ ‵ (fdies slice l₁) ∷ ‵ (froom τS l₀ 0) ∷ ‵ (fdies τS l₀) ∷ ‵ (Named γ ys) ∷ ‵ (Sized b o γ ys) ∷ []
+          ∷ ‵ (fat full_share slice l₁ 0 (slice_val (b, o) n)) ∷ ‵ (fdies slice l₁) ∷ ‵ (froom τS l₀ 0) ∷ ‵ (fdies τS l₀) ∷ ‵ (Sized b o ys) ∷ []
 
       abbrev Turned : Turn → Out → SProp 𝓤
       Turned t = after_turn 𝓤 H (Below 𝓛 Nearer At t) (after_block 𝓤 H (after_seq 𝓤 H (Wp 𝓤 H C Λ En after (at_return 𝓤 H En Post)) (at_return 𝓤 H En Post)))
@@ -269,7 +265,7 @@ module _ (TR : Declared) (LR : LL.Laws TR) (CR : LL.Copyables TR.parts) (PR : Pl
       Tested t ve r = ‵ (flft κ q) ∷ ‵ (Shared κ b o ys) ∷ ‵ (fat full_share ty_bool l₁₁ 0 (vbool r)) ∷ ‵ (fdies ty_bool l₁₁) ∷ ‵ (fat full_share τR l₁₀ 0 ve) ∷ ‵ (fdies τR l₁₀) ∷ ‵ (fat full_share ty_ptr l₉ 0 (vptr b (placed size o t.i))) ∷ ‵ (fdies ty_ptr l₉) ∷ ‵ (fat full_share ty_bool l₈ 0 (vbool true)) ∷ ‵ (fdies ty_bool l₈)
           ∷ ‵ (fat full_share word l₇ 0 (vint w64 (t.i * size))) ∷ ‵ (fdies word l₇) ∷ ‵ (froom ty_bool l₆ 0) ∷ ‵ (fdies ty_bool l₆) ∷ ‵ (fat full_share τR l₅ 0 ve) ∷ ‵ (fdies τR l₅)
           ∷ ‵ (fat full_share word l₄ 0 (vint w64 (t.i + 1))) ∷ ‵ (fdies word l₄) ∷ ‵ (fat full_share τS l₃ 0 t.v) ∷ ‵ (fdies τS l₃) ∷ ‵ (fat full_share τS l₂ 0 va) ∷ ‵ (fdies τS l₂)
-          ∷ ‵ (fat full_share slice l₁ 0 (slice_val (b, o) n)) ∷ ‵ (fdies slice l₁) ∷ ‵ (froom τS l₀ 0) ∷ ‵ (fdies τS l₀) ∷ ‵ (Named γ ys) ∷ ‵ (Sized b o γ ys) ∷ []
+          ∷ ‵ (fat full_share slice l₁ 0 (slice_val (b, o) n)) ∷ ‵ (fdies slice l₁) ∷ ‵ (froom τS l₀ 0) ∷ ‵ (fdies τS l₀) ∷ ‵ (Sized b o ys) ∷ []
 
       abbrev next : (t : Turn) → t.i < n → (r : TS.D) (u : Val) → Is S r (u ∷ []) → r ≡ step t.acc (get_or ys t.i d) → Turn
       next t less r u is e = record { i = t.i + 1; acc = r; v = u; below = add-one-le less; is = is; inv = fold_more ys t.i t.acc r less e ∙ t.inv }
@@ -286,7 +282,7 @@ module _ (TR : Declared) (LR : LL.Laws TR) (CR : LL.Copyables TR.parts) (PR : Pl
           yes_arm y =
               nothing ! $ use1 𝓛 (raw ((Step 𝓛).pre (to t elem ve ge))) (asked t elem ve ge) $
               calls_at_last ! (fm_of 𝓤 H 𝓛.laws 𝓣) (Step 𝓛) known (to t elem ve ge) (and_then ! (load ! (from ! (stop !)) (look ! 19 refl)) (and_then ! (load ! (from ! (stop !)) (look ! 15 refl)) (no_more !))) (λ u.
-              use1 𝓛 (later (some (λ (r : TS.D). (‵ ftrue ⊛ ‵ (S.own r (u ∷ []))) ⊛ raw (ensured 𝓛 step_ended (step_clauses 𝓤) tt (t.acc, (elem, tt)) tt r)))) (id⊢ 𝓤 _) $ await ! tt $ pick ! (λ z.
+              use1 𝓛 (later (some (λ (r : TS.D). (‵ ftrue ⊛ ‵ (S.own_val r (u ∷ []))) ⊛ raw (ensured 𝓛 step_ended (step_clauses 𝓤) tt (t.acc, (elem, tt)) tt r)))) (id⊢ 𝓤 _) $ await ! tt $ pick ! (λ z.
               split ! $ move ! (1 ∷ []) $ use1 𝓛 (raw (fact 𝓤 (z ≡ add₁ t.acc elem))) (said t elem ve ge z) $ heard ! (z ≡ add₁ t.acc elem) (λ e. split ! $ drop ! $
               peeks ! S (Is S) (shows 𝓛 S) z (u ∷ []) (λ is. drop ! $
               land_last ! (from ! (stop !)) (store ! 18 refl (typed z u is)) $
@@ -315,7 +311,7 @@ module _ (TR : Declared) (LR : LL.Laws TR) (CR : LL.Copyables TR.parts) (PR : Pl
           assigns ! (bin ! (load ! (from ! (stop !)) (look ! 16 refl)) (lit ! small) (scaled_Fits t.i n size less gn.1)) (from ! (stop !)) (store ! 10 refl (tt, scaled_Fits t.i n size less gn.1)) $
           assigns ! (bin ! (load ! (from ! (fld ! refl (stop !))) (look_in ! 22 (sub ! 0 refl (whole !)))) (load ! (from ! (stop !)) (look ! 10 refl)) tt) (from ! (stop !)) (init ! 6 refl (tt, tt)) $
           rewrite ! 6 (λ (p : ℕ). ‵ (fat full_share ty_ptr l₉ 0 (vptr b p))) (sym (place_is size o t.i)) refl $
-          looks_slice ! tt R (Is R) (shows 𝓛 R) (LL.vals TR LR) (LL.tells TR LR) (LL.copy TR CR 𝓛) ys b o (λ q'.
+          looks_slice ! tt R (LL.copied TR CR 𝓛) ys b o (λ q'.
           elem_out ! R (Is R) (shows 𝓛 R) (LL.vals TR LR) (LL.tells TR LR) q' ys t.i d b o less (λ ge.
           -- [t[i]; what it owns; the others; what shuts; the borrow; _10; …]
           assigns ! (of_opd ! (load ! (from ! (hop ! (look ! 9 refl) (stop !))) (look_raw ! 0 refl))) (from ! (stop !)) (init ! 7 refl ((LL.lawful TR LR 𝓛).typed elem _ ge).0) $
@@ -367,8 +363,8 @@ module _ (TR : Declared) (LR : LL.Laws TR) (CR : LL.Copyables TR.parts) (PR : Pl
       looped : (t : Turn) → Sq 𝓛 (At t) (runs C Λ En rest (at_ret En Post))
       looped t = first ! $ blocks ! $ loops ! 𝓣 Nearer Nearer-wf At turns t
 
-  module _ {M : Type 1} {𝓤 : Ura M} (𝓛 : Logic 𝓤) (κ : Lft) (q : Share) (b o : ℕ) (γ : GName) (ys : List TR.D) (gn : Room R (length ys)) (a : TS.D) (va : Val) (ga : Is S a (va ∷ [])) (Post : Val → SProp 𝓤)
-      (exits : (r : TS.D) (v : Val) → Is S r (v ∷ []) → r ≡ cond (off a) a (foldl step a ys) → ent 𝓤 (⋆ 𝓛 (Lent 𝓤 κ q b o γ ys)) (Post v)) where
+  module _ {M : Type 1} {𝓤 : Ura M} (𝓛 : Logic 𝓤) (κ : Lft) (q : Share) (b o : ℕ) (ys : List TR.D) (gn : Room R (length ys)) (a : TS.D) (va : Val) (ga : Is S a (va ∷ [])) (Post : Val → SProp 𝓤)
+      (exits : (r : TS.D) (v : Val) → Is S r (v ∷ []) → r ≡ cond (off a) a (foldl step a ys) → ent 𝓤 (⋆ 𝓛 (Lent 𝓤 κ q b o ys)) (Post v)) where
     open 𝓛 use {H, A}
 
     abbrev given : Bor (List TR.D) × (TS.D × Unit {0})
@@ -415,16 +411,16 @@ module _ (TR : Declared) (LR : LL.Laws TR) (CR : LL.Copyables TR.parts) (PR : Pl
                 assigns ! (of_opd ! (load ! (from ! (stop !)) (look ! 18 refl))) (from ! (stop !)) (init ! 22 refl typed_a) $
                 returns_within ! Post refl (look ! 22 refl) $ forget ! 10 refl $ forget ! 18 refl $ forget ! 20 refl $ forget ! 22 refl $
                 move ! (22 ∷ 23 ∷ []) $ free1 ! $ move ! (20 ∷ 21 ∷ []) $ free1 ! $ move ! (18 ∷ 19 ∷ []) $ free1 ! $ move ! (16 ∷ 17 ∷ []) $ free1 ! $ move ! (14 ∷ 15 ∷ []) $ free1 ! $ move ! (12 ∷ 13 ∷ []) $ free1 ! $ move ! (10 ∷ 11 ∷ []) $ free1 ! $ move ! (8 ∷ 9 ∷ []) $ free1 ! $ move ! (6 ∷ 7 ∷ []) $ free1 ! $ move ! (4 ∷ 5 ∷ []) $ free1 ! $ move ! (2 ∷ 3 ∷ []) $ free1 ! $ move ! (0 ∷ 1 ∷ []) $ free1 ! $ free0 ! $
-                move ! (1 ∷ []) $ fsplit ! $ fsplit ! $ move ! (1 ∷ []) $ fsplit ! $ move ! (4 ∷ []) $ split ! $ keep ! (3 ∷ 0 ∷ 2 ∷ 4 ∷ []) $ by ! (exits a va ga (off_so r e (so_true r y)))
+                move ! (1 ∷ []) $ fsplit ! $ fsplit ! $ move ! (3 ∷ []) $ split ! $ keep ! (3 ∷ 0 ∷ 2 ∷ []) $ by ! (exits a va ga (off_so r e (so_true r y)))
 
             no_arm : Holds (not r) → Sq 𝓛 (Begun r) (runs 𝓣.C 𝓣.Λ Ev skipᴹ (any_q (after_seq 𝓤 H (Wp 𝓤 H 𝓣.C 𝓣.Λ Ev looks (at_return 𝓤 H Ev Post)) (at_return 𝓤 H Ev Post))))
             no_arm y =
                 skips ! $ exec ! 𝓣.C 𝓣.Λ Ev looks (at_ret Ev Post) $ forget ! 10 refl $
                 assigns ! (of_opd ! (load ! (from ! (stop !)) (look ! 18 refl))) (from ! (stop !)) (init ! 16 refl typed_a) $
                 assigns ! (of_opd ! (lit ! tt)) (from ! (stop !)) (init ! 14 refl (tt, record { fits = lit< tt })) $
-                move ! (25 ∷ []) $ fsplit ! $ fsplit ! $ move ! (1 ∷ []) $ fsplit ! $ move ! (28 ∷ []) $ split ! $
-                keep ! (3 ∷ 0 ∷ 6 ∷ 7 ∷ 8 ∷ 9 ∷ 10 ∷ 11 ∷ 12 ∷ 13 ∷ 14 ∷ 15 ∷ 16 ∷ 17 ∷ 18 ∷ 19 ∷ 20 ∷ 21 ∷ 22 ∷ 23 ∷ 24 ∷ 25 ∷ 26 ∷ 27 ∷ 28 ∷ 29 ∷ 2 ∷ 4 ∷ []) $
-                looped 𝓛 κ q b o γ ys gn a va ga Post (λ z v is f. exits z v is (f ∙ on_so r e (so_false r y))) 𝓣 knownW known l₀ l₁ l₂ l₃ l₄ l₅ l₆ l₇ l₈ l₉ l₁₀ l₁₁
+                move ! (25 ∷ []) $ fsplit ! $ fsplit ! $ move ! (27 ∷ []) $ split ! $
+                keep ! (3 ∷ 0 ∷ 5 ∷ 6 ∷ 7 ∷ 8 ∷ 9 ∷ 10 ∷ 11 ∷ 12 ∷ 13 ∷ 14 ∷ 15 ∷ 16 ∷ 17 ∷ 18 ∷ 19 ∷ 20 ∷ 21 ∷ 22 ∷ 23 ∷ 24 ∷ 25 ∷ 26 ∷ 27 ∷ 28 ∷ 2 ∷ []) $
+                looped 𝓛 κ q b o ys gn a va ga Post (λ z v is f. exits z v is (f ∙ on_so r e (so_false r y))) 𝓣 knownW known l₀ l₁ l₂ l₃ l₄ l₅ l₆ l₇ l₈ l₉ l₁₀ l₁₁
                 (record { i = 0; acc = a; v = va; below = zero-le; is = ga; inv = refl })
 
       walk : ent 𝓤 (sep 𝓤 (sep 𝓤 (A.lft κ q) (sem 𝓛 ftrue)) (sem 𝓛 (owns (ShrSlice (named 0) κ R ∷ S ∷ []) given vals))) (WpFn 𝓤 H 𝓣.C 𝓣.Λ function (slice_val (b, o) (length ys) ∷ va ∷ []) Post)
@@ -472,13 +468,13 @@ module _ (TR : Declared) (LR : LL.Laws TR) (CR : LL.Copyables TR.parts) (PR : Pl
     abbrev Ends : Contract 𝓤
     Ends = walk_of 𝓛 scan_ended stayed (scan_clauses 𝓤)
 
-    module _ (κ : Lft) (q : Share) (b o : ℕ) (γ : GName) (ys : List TR.D) (a : TS.D) (va : Val) (ga : Is S a (va ∷ [])) where
+    module _ (κ : Lft) (q : Share) (b o : ℕ) (ys : List TR.D) (a : TS.D) (va : Val) (ga : Is S a (va ∷ [])) where
       abbrev to_s : Ends.Ghost
       to_s = (((κ, tt), (q, tt), tt, (record { ref_ptr = (b, o); now = ys }, (a, tt)), (slice_val (b, o) (length ys) ∷ [], (va ∷ [], tt))), tt)
 
-      exits : (r : TS.D) (v : Val) → Is S r (v ∷ []) → r ≡ cond (off a) a (foldl step a ys) → ent 𝓤 (⋆ 𝓛 (Lent 𝓤 κ q b o γ ys)) (Ends.post to_s v)
+      exits : (r : TS.D) (v : Val) → Is S r (v ∷ []) → r ≡ cond (off a) a (foldl step a ys) → ent 𝓤 (⋆ 𝓛 (Lent 𝓤 κ q b o ys)) (Ends.post to_s v)
       exits r v is e =
-          qed 𝓛 (Lent 𝓤 κ q b o γ ys) ∵ move ! (2 ∷ 0 ∷ []) $ fjoin ! $ move ! (2 ∷ 0 ∷ []) $ fjoin ! $ move ! (1 ∷ 0 ∷ []) $
+          qed 𝓛 (Lent 𝓤 κ q b o ys) ∵ move ! (2 ∷ 0 ∷ []) $ fjoin ! $ move ! (1 ∷ 0 ∷ []) $
           suffices ! _ (ends_at 𝓛 scan_ended stayed (scan_clauses 𝓤) to_s v r (tt, (last a, tt)) (tt, (tt, tt))) $ says ! e $
           nothing ! $ move ! (1 ∷ 0 ∷ []) $ join ! $ nothing ! $ owned ! S (Is S) (LL.makes TS PS 𝓛) a _ ga $ fjoin ! $ move ! (2 ∷ 0 ∷ []) $ fjoin ! $ move ! (1 ∷ 0 ∷ []) $
           frame ! $ frame ! $ owned ! S (Is S) (LL.makes TS PS 𝓛) r _ is $ done !
@@ -490,8 +486,8 @@ module _ (TR : Declared) (LR : LL.Laws TR) (CR : LL.Copyables TR.parts) (PR : Pl
       ends_well : Triple 𝓤 runs_it Ends
       ends_well =
           walked 𝓛 scan_ended stayed (scan_clauses 𝓤) runs_it (λ κs. (shr_slice_vals, (LL.vals TS LS, tt))) (λ κs. (shr_slice_Tells (named 0) κs.0 R, (LL.tells TS LS, tt))) (λ κs qs bounds a _ are. via 𝓤 _ (fst∗ 𝓤 _ (emp 𝓤))
-          (walk 𝓛 κs.0 qs.0 a.0.ref_ptr.0 a.0.ref_ptr.1 0 a.0.now are.0.0.1 a.1.0 (LL.val TS LS a.1.0) are.1.0
-          _ (exits κs.0 qs.0 a.0.ref_ptr.0 a.0.ref_ptr.1 0 a.0.now a.1.0 (LL.val TS LS a.1.0) are.1.0) 𝓣 knownO knownW known))
+          (walk 𝓛 κs.0 qs.0 a.0.ref_ptr.0 a.0.ref_ptr.1 a.0.now are.0.0.1 a.1.0 (LL.val TS LS a.1.0) are.1.0
+          _ (exits κs.0 qs.0 a.0.ref_ptr.0 a.0.ref_ptr.1 a.0.now a.1.0 (LL.val TS LS a.1.0) are.1.0) 𝓣 knownO knownW known))
 
       code_meets : Triple 𝓤 runs_it (Scanned 𝓛)
       code_meets =
@@ -501,7 +497,7 @@ module _ (TR : Declared) (LR : LL.Laws TR) (CR : LL.Copyables TR.parts) (PR : Pl
   pub meets : {M : Type 1} {𝓤 : Ura M} (𝓛 : Logic 𝓤) (𝓜 : Model 𝓤 𝓛.H) (𝓡 : Running 𝓤 𝓛.H 𝓜) (γ : Meanings) (#f : Callee) → Closed 𝓤 𝓛.H (tables 𝓤 𝓛.H 𝓜 𝓡 γ).C (tables 𝓤 𝓛.H 𝓜 𝓡 γ).Λ #f function
       → {o w g : Routine} → γ #o ≡ o → γ #w ≡ w → γ #g ≡ g → Triple 𝓤 (𝓡.run o) (Off 𝓛) → Triple 𝓤 (𝓡.run w) (Want 𝓛) → Triple 𝓤 (𝓡.run g) (Step 𝓛) → Triple 𝓤 (𝓡.run (γ #f)) (Scanned 𝓛)
   unfolding tables_of
-  meets {𝓤 = 𝓤} 𝓛 𝓜 𝓡 γ #f closed {o} {w} {g} o_is w-is g-is metO metW met =
+  meets {𝓤 = 𝓤} 𝓛 𝓜 𝓡 γ #f closed {o} {w} {g} o_is w_is g_is metO metW met =
       entered 𝓤 𝓛.H (Scanned 𝓛) (tables 𝓤 𝓛.H 𝓜 𝓡 γ).C (tables 𝓤 𝓛.H 𝓜 𝓡 γ).Λ #f function closed
       (code_meets 𝓛 (tables_of 𝓤 𝓛.H 𝓜 (tables 𝓤 𝓛.H 𝓜 𝓡 γ))
-      (cited 𝓤 𝓛.H (Off 𝓛) 𝓜 𝓡 γ #o o o_is metO) (cited 𝓤 𝓛.H (Want 𝓛) 𝓜 𝓡 γ #w w w-is metW) (cited 𝓤 𝓛.H (Step 𝓛) 𝓜 𝓡 γ #g g g-is met))
+      (cited 𝓤 𝓛.H (Off 𝓛) 𝓜 𝓡 γ #o o o_is metO) (cited 𝓤 𝓛.H (Want 𝓛) 𝓜 𝓡 γ #w w w_is metW) (cited 𝓤 𝓛.H (Step 𝓛) 𝓜 𝓡 γ #g g g_is met))
