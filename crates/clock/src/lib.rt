@@ -7,12 +7,12 @@ ghost use Rattle.clock.specs.Clock.{span, is_moment, is_expiry, is_past, is_ahea
 
 // A moment on the clock, in seconds: 0 to LATEST. As an expiry it may also be NEVER.
 #[repr(C)]
-#[derive(Clone, Copy)]
+#[derive(Clone, Copy, PartialEq, Eq, PartialOrd, Ord, Debug)]
 pub struct Moment(pub u64);
 
 // A span of seconds.
 #[repr(C)]
-#[derive(Clone, Copy)]
+#[derive(Clone, Copy, PartialEq, Eq, PartialOrd, Ord, Debug)]
 pub struct Span(pub u32);
 
 // The latest moment, 2^48 - 1.
