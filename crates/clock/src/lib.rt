@@ -36,17 +36,14 @@ pub fn is_moment(m: Moment) -> bool
 pub fn is_expiry(m: Moment) -> bool
     ensures { result ≡ is_expiry m }
 {
-    if m.0 == NEVER {
-        return true;
-    }
-    m.0 <= LATEST
+    m == Moment(NEVER) || is_moment(m)
 }
 
 // Whether what ends at a moment is past: that moment is before now.
 pub fn is_past(end: Moment, clock: Moment) -> bool
     ensures { result ≡ is_past end clock }
 {
-    end.0 < clock.0
+    end < clock
 }
 
 // Whether an expiry is never or later than now.
@@ -54,10 +51,7 @@ pub fn is_past(end: Moment, clock: Moment) -> bool
 pub fn is_ahead(expiry: Moment, clock: Moment) -> bool
     ensures { result ≡ is_ahead expiry clock }
 {
-    if expiry.0 == NEVER {
-        return true;
-    }
-    clock.0 < expiry.0
+    expiry == Moment(NEVER) || clock < expiry
 }
 
 // The moment a span from now: at most LATEST.
@@ -65,12 +59,8 @@ pub fn is_ahead(expiry: Moment, clock: Moment) -> bool
 pub fn moment_after(clock: Moment, after: Span) -> Moment
     ensures { result ≡ moment_after clock after }
 {
-    let n = clock.0;
-    let s = after.0 as u64;
-    if LATEST - s < n {
-        return Moment(LATEST);
-    }
-    Moment(n + s)
+    let sum = clock.0.saturating_add(u64::from(after.0));
+    Moment(sum.min(LATEST))
 }
 
 // The expiry of a lifetime that starts now: at most LATEST, and never for a lifetime without end.
@@ -78,28 +68,18 @@ pub fn moment_after(clock: Moment, after: Span) -> Moment
 pub fn expiry_after(clock: Moment, lifetime: Span) -> Moment
     ensures { result ≡ expiry_after clock lifetime }
 {
-    if lifetime.0 == ENDLESS {
+    if lifetime == Span(ENDLESS) {
         return Moment(NEVER);
     }
     moment_after(clock, lifetime)
 }
 
-// The seconds from one number to a later one, 0 where it is not later.
-fn difference(from: u64, to: u64) -> u64
-    ensures { result ≡ to - from }
+// The seconds from one moment to a later one, none where it is not later, as a span of at most a limit.
+fn seconds_between(from: Moment, to: Moment, limit: u32) -> Span
+    ensures { result ≡ span (min (to.0 - from.0) limit) }
 {
-    if from < to { to - from } else { 0 }
-}
-
-// A number of seconds as a span of at most a limit.
-fn capped(seconds: u64, limit: u32) -> Span
-    ensures { result ≡ span (min seconds limit) }
-{
-    if seconds < limit as u64 {
-        Span(seconds as u32)
-    } else {
-        Span(limit)
-    }
+    let seconds = to.0.saturating_sub(from.0);
+    Span(seconds.min(u64::from(limit)) as u32)
 }
 
 // The seconds from now to an expiry: 4,294,967,294 at most, and without end for never.
@@ -107,10 +87,10 @@ fn capped(seconds: u64, limit: u32) -> Span
 pub fn seconds_left(expiry: Moment, clock: Moment) -> Span
     ensures { result ≡ seconds_left expiry clock }
 {
-    if expiry.0 == NEVER {
+    if expiry == Moment(NEVER) {
         return Span(ENDLESS);
     }
-    capped(difference(clock.0, expiry.0), 4294967294)
+    seconds_between(clock, expiry, ENDLESS - 1)
 }
 
 // The seconds from a moment to now: 4,294,967,295 at most, and 0 where the moment is later.
@@ -118,5 +98,5 @@ pub fn seconds_left(expiry: Moment, clock: Moment) -> Span
 pub fn seconds_since(last: Moment, clock: Moment) -> Span
     ensures { result ≡ seconds_since last clock }
 {
-    capped(difference(last.0, clock.0), 4294967295)
+    seconds_between(last, clock, u32::MAX)
 }
