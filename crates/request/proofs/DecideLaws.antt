@@ -1,10 +1,9 @@
 -- From a survey and the place found to what the rules say: each way out of a decision. Assumes nothing.
-use mathlib.Core.Path.{◌≡◌, refl, sym, ◌∙◌, ap, fun_ext}
+use mathlib.Core.Path.{◌≡◌, refl, sym, ◌∙◌, ap}
 use mathlib.Core.Bool.{Bool, true, false, cond}
 use mathlib.Core.Option.{Option, none, some}
 use Prim.Native.Nat.{ℕ, ◌<◌}
 use native.Mathlib.Omega.{arith}
-use borrow.Author.Tests.{ne_eqb}
 use lib.Dec.{eqb}
 use lib.ListN.{get_or}
 use Rattle.octets.specs.Count.{Octets}
@@ -16,14 +15,18 @@ use Rattle.zone.specs.declared.entry.Dhcid.{Dhcid}
 use Rattle.zone.specs.declared.entry.Address.{Address}
 use Rattle.zone.specs.declared.Zone.{Zone}
 use Rattle.zone.specs.declared.survey.Survey.{Survey}
-use Rattle.request.specs.declared.decide.Change.{Change}
+use Rattle.request.specs.declared.answer.Answer.{Answer as Said}
+use Rattle.request.specs.declared.answer.Answer.TheVariants.{Success, NxDomain, YxDomain, YxRrset, NxRrset, NoRoom}
+use Rattle.request.specs.declared.decide.Change.TheVariants.{Stays, Writes}
+use Rattle.request.specs.declared.decide.Update.{Update as Sent}
 use Rattle.update.specs.Rules as rules
 use Rattle.update.specs.Rules.{Host, GoodHost, Update, Answer, success, YXDOMAIN, NXDOMAIN, YXRRSET, NXRRSET, no_room, Outcome, says, held_by, empty, new_host, left, fits, request_a, request_b, remove_address, remove_name}
 use Rattle.zone.specs.Meaning.{used, in_order, formed}
 use Rattle.update.specs.Meaning.{host_of, zone_of, family_of, policy_of, update_of}
 use Rattle.request.specs.Promise.{number_of}
+use Rattle.request.specs.Answers.{means}
 use Rattle.zone.specs.Survey.{Found, place_of}
-use Rattle.request.specs.Inner.{SaysOnly, request_of, written, Spells, Decided, Adds, Seen, Decides, Stands, Makes, Fresh, AlreadyAdded, HasAddress, HasRoom, Joined, Parted}
+use Rattle.request.specs.Inner.{update_at, written, Spells, Decided, Adds, Seen, Decides, Stands, Makes, Fresh, AlreadyAdded, HasAddress, HasRoom, Joined, Parted}
 use Rattle.zone.proofs.SurveyLaws.{blank}
 use Rattle.update.proofs.ZoneLaws.{put, address, some≢none, put_same, put_stood, A-new, A-full, A-there, B-absent, B-other, B-full, B-done, remove_address_absent, remove_address_other, remove_address_own, remove_name_absent, remove_name_other, remove_name_kept, remove_name_gone}
 use Rattle.request.proofs.HostLaws.{about}
@@ -49,33 +52,20 @@ module _ {n : Octets} (z : Zone) (right : Outcome) (answer place : ℕ) (e : Ent
     needed = λ h k. d (ap (λ (o : Outcome). o.zone) (sym r) ∙ k);
   }
 
--- ---- the requests by number
-
-module _ (policy : ℕ) (u : Update) (kind : ℕ) where
-  pub is_a_lem : kind ≡ 1 → request_a u ≡ request_of kind policy u
-  is_a_lem k = fun_ext (λ z. unfold request_of in rw k)
-
-module _ (policy : ℕ) (u : Name → Update) (kind : ℕ) where
-  abbrev by_number : Name → rules.Zone → Outcome
-  by_number n = request_of kind policy (u n)
-
-  pub is_b_lem : kind ≡ 2 → (λ (n : Name). request_b (policy_of policy) (u n)) ≡ by_number
-  is_b_lem k = fun_ext (λ n. fun_ext (λ z. unfold request_of in rw k))
-
-  pub is_first : kind ≡ 3 → (λ (n : Name). remove_address (u n)) ≡ by_number
-  is_first k = fun_ext (λ n. fun_ext (λ z. unfold request_of in rw k))
-
-  pub is_second_lem : ¬ (kind ≡ 1) → ¬ (kind ≡ 2) → ¬ (kind ≡ 3) → (λ (n : Name). remove_name (u n)) ≡ by_number
-  is_second_lem a b c = fun_ext (λ n. fun_ext (λ z. unfold request_of in sym (rw (ne_eqb kind 1 a, ne_eqb kind 2 b, ne_eqb kind 3 c))))
-
 -- ---- the four requests
 
-abbrev writes_at : ℕ → Records → Change
-writes_at place r = record { answer = 0; place = place; records = r }
+module _ (s : Survey) (sent : Sent) where
+  abbrev d : Dhcid
+  d = sent.dhcid
 
-module _ (s : Survey) (d : Dhcid) (family : ℕ) (a : Address) where
+  abbrev family : ℕ
+  family = sent.family
+
+  abbrev a : Address
+  a = sent.address
+
   abbrev u : Name → Update
-  u n = update_of n d family a
+  u = update_at sent
 
   -- what stands at the name, by the survey
   module _ {z : Zone} (n : Name) (g : formed z ≡ true) (v : Found z (name_of n) s) where
@@ -92,17 +82,15 @@ module _ (s : Survey) (d : Dhcid) (family : ℕ) (a : Address) where
   abbrev asks_a : Name → rules.Zone → Outcome
   asks_a n = request_a (u n)
 
-  pub a_there : (r : Change) → s.found < 64 → SaysOnly 6 r → Adds asks_a s r
-  unfolding number_of
-  a_there r h i = record { adds = λ z n g m v. stay z _ _ _ _ YXDOMAIN (A-there (u n) (zone_of z) _ (stood n g v blank h)) i.answer_is i.place_is }
+  pub a_there : s.found < 64 → Adds asks_a s (Stays YxDomain)
+  a_there h = record { adds = λ z n g m v e. stay z _ _ _ e YXDOMAIN (A-there (u n) (zone_of z) _ (stood n g v blank h)) refl refl }
 
-  pub a_full : (r : Change) → ¬ (s.found < 64) → ¬ (s.free < 64) → SaysOnly 256 r → Adds asks_a s r
-  unfolding number_of
-  a_full r h k i = record {
-    adds = λ z n g m v. stay z _ _ _ _ no_room (A-full (u n) (zone_of z) (absent n g v h) (no_room_lem z g (name_of n) blank s.free v.free_is k)) i.answer_is i.place_is;
+  pub a_full : ¬ (s.found < 64) → ¬ (s.free < 64) → Adds asks_a s (Stays NoRoom)
+  a_full h k = record {
+    adds = λ z n g m v e. stay z _ _ _ e no_room (A-full (u n) (zone_of z) (absent n g v h) (no_room_lem z g (name_of n) blank s.free v.free_is k)) refl refl;
   }
 
-  pub a_new : (r : Records) → ¬ (s.found < 64) → s.free < 64 → Fresh d family a r → Adds asks_a s (writes_at s.free r)
+  pub a_new : (r : Records) → ¬ (s.found < 64) → s.free < 64 → Fresh d family a r → Adds asks_a s (Writes r)
   a_new r h k f = record { adds = λ z n g m v. new z n g v (f.stands n m) }
     where
       new : (z : Zone) (n : Name) → formed z ≡ true → Found z (name_of n) s → Stands n 2 (new_host (u n)) r → Decided (name_of n) z (asks_a n (zone_of z)) 0 s.free (place_of n r)
@@ -164,20 +152,16 @@ module _ (s : Survey) (d : Dhcid) (family : ℕ) (a : Address) where
 
     module _ (request : Name → rules.Zone → Outcome) where
       -- nothing is written
-      only : (r : Change) (x : Answer) → SaysOnly (number_of x) r → ((z : Zone) (n : Name) (b : Entry) → Seen z n b s e → request n (zone_of z) ≡ says x (zone_of z))
-          → Decides request s e r
-      only r x i f =
-          let p : r.place ≡ 64 = i.place_is in
-          record { place_is = λ q. absurd (omega arith); decides = λ z n b t. stay z _ _ _ _ x (f z n b t) i.answer_is p }
+      only : (x : Said) → ((z : Zone) (n : Name) (b : Entry) → Seen z n b s e → request n (zone_of z) ≡ says (means x) (zone_of z)) → Decides request s e (Stays x)
+      only x f = record { decides = λ z n b t y. stay z _ _ _ y (means x) (f z n b t) refl refl }
 
       -- another host is written
       changes : (f : Records) (x : Name → Name → Host) → s.found < 64
           → ((z : Zone) (n : Name) (b : Entry) (t : Seen z n b s e) → (request n (zone_of z) ≡ says success (put (u n).name (some (x n (it t).name)) (zone_of z)))
           × Stands (it t).name e.kind (x n (it t).name) f × ¬ (x n (it t).name ≡ host_of (old t)))
-          → Decides request s e (writes_at s.found f)
+          → Decides request s e (Writes f)
       unfolding number_of
       changes f x h c = record {
-        place_is = λ q. refl;
         decides = λ z n b t. let w = c z n b t in write z _ _ _ _ _ w.0 refl h (rewritten t h f _ w.1) (other t h _ w.2);
       }
 
@@ -187,19 +171,16 @@ module _ (s : Survey) (d : Dhcid) (family : ℕ) (a : Address) where
       abbrev asks_b : Name → rules.Zone → Outcome
       asks_b n = request_b (policy_of p) (u n)
 
-      pub b_absent : (r : Change) → ¬ (s.found < 64) → SaysOnly 3 r → Decides asks_b s e r
-      unfolding number_of
-      b_absent r h i = only asks_b r NXDOMAIN i (λ z n b t. B-absent (u n) (zone_of z) (policy_of p) (absent n t.form t.found h))
+      pub b_absent : ¬ (s.found < 64) → Decides asks_b s e (Stays NxDomain)
+      b_absent h = only asks_b NxDomain (λ z n b t. B-absent (u n) (zone_of z) (policy_of p) (absent n t.form t.found h))
 
       module _ (h : s.found < 64) where
-        pub b_other : (r : Change) → Held false → SaysOnly 8 r → Decides asks_b s e r
-        unfolding number_of
-        b_other r o i = only asks_b r NXRRSET i (λ z n b t. B-other (u n) (zone_of z) _ (present t h) (policy_of p) (held t false o))
+        pub b_other : Held false → Decides asks_b s e (Stays NxRrset)
+        b_other o = only asks_b NxRrset (λ z n b t. B-other (u n) (zone_of z) _ (present t h) (policy_of p) (held t false o))
 
         module _ (o : Held true) (x : Bool) (c : AlreadyAdded family p a e x) where
-          pub b_added : (r : Change) → x ≡ true → SaysOnly 0 r → Decides asks_b s e r
-          unfolding number_of
-          b_added r y i = only asks_b r success i (λ z n b t.
+          pub b_added : x ≡ true → Decides asks_b s e (Stays Success)
+          b_added y = only asks_b Success (λ z n b t.
               let k = added_same (u n) _ (good t h) (policy_of p) (sym (c.added_is _ _ (about n d family a)) ∙ y) in
               B-done (u n) (zone_of z) _ (present t h) (policy_of p) (held t true o) k.room ∙ ap (says success) (same t h _ k.same))
 
@@ -211,11 +192,10 @@ module _ (s : Survey) (d : Dhcid) (family : ℕ) (a : Address) where
             left_room : {z : Zone} {n : Name} {b : Entry} (t : Seen z n b s e) → fits (u n) (left (u n).family (policy_of p) (host_of (old t))) ≡ y
             left_room {n = n} t = ap (fits (u n)) (sym (left_stands t).host_is) ∙ sym (w.room_is _ _ (about n d family a))
 
-            pub b_full : (r : Change) → y ≡ false → SaysOnly 256 r → Decides asks_b s e r
-            unfolding number_of
-            b_full r q i = only asks_b r no_room i (λ z n b t. B-full (u n) (zone_of z) _ (present t h) (policy_of p) (held t true o) (left_room t ∙ q))
+            pub b_full : y ≡ false → Decides asks_b s e (Stays NoRoom)
+            b_full q = only asks_b NoRoom (λ z n b t. B-full (u n) (zone_of z) _ (present t h) (policy_of p) (held t true o) (left_room t ∙ q))
 
-            pub b_done : (f : Records) → x ≡ false → y ≡ true → Joined family a k f → Decides asks_b s e (writes_at s.found f)
+            pub b_done : (f : Records) → x ≡ false → y ≡ true → Joined family a k f → Decides asks_b s e (Writes f)
             b_done f v q j =
                 changes asks_b f (λ n m. address (u n) true (left (u n).family (policy_of p) (host_of (place_of m e)))) h (λ z n b t.
                 let m = left_stands t in
@@ -230,23 +210,20 @@ module _ (s : Survey) (d : Dhcid) (family : ℕ) (a : Address) where
     abbrev asks_first : Name → rules.Zone → Outcome
     asks_first n = remove_address (u n)
 
-    pub remove_absent : (r : Change) → ¬ (s.found < 64) → SaysOnly 8 r → Decides asks_first s e r
-    unfolding number_of
-    remove_absent r h i = only asks_first r NXRRSET i (λ z n b t. remove_address_absent (u n) (zone_of z) (absent n t.form t.found h))
+    pub remove_absent : ¬ (s.found < 64) → Decides asks_first s e (Stays NxRrset)
+    remove_absent h = only asks_first NxRrset (λ z n b t. remove_address_absent (u n) (zone_of z) (absent n t.form t.found h))
 
     module _ (h : s.found < 64) where
-      pub remove_other : (r : Change) → Held false → SaysOnly 8 r → Decides asks_first s e r
-      unfolding number_of
-      remove_other r o i = only asks_first r NXRRSET i (λ z n b t. remove_address_other (u n) (zone_of z) _ (present t h) (held t false o))
+      pub remove_other : Held false → Decides asks_first s e (Stays NxRrset)
+      remove_other o = only asks_first NxRrset (λ z n b t. remove_address_other (u n) (zone_of z) _ (present t h) (held t false o))
 
       module _ (o : Held true) (x : Bool) (c : HasAddress family a e x) where
-        pub remove_none : (r : Change) → x ≡ false → SaysOnly 0 r → Decides asks_first s e r
-        unfolding number_of
-        remove_none r y i = only asks_first r success i (λ z n b t.
+        pub remove_none : x ≡ false → Decides asks_first s e (Stays Success)
+        remove_none y = only asks_first Success (λ z n b t.
             remove_address_own (u n) (zone_of z) _ (present t h) (held t true o)
             ∙ ap (says success) (same t h _ (removed_same (u n) _ (good t h) (sym (c.has_is _ _ (about n d family a)) ∙ y))))
 
-        pub remove_own : (f : Records) → x ≡ true → Parted family a e f → Decides asks_first s e (writes_at s.found f)
+        pub remove_own : (f : Records) → x ≡ true → Parted family a e f → Decides asks_first s e (Writes f)
         remove_own f y k =
             changes asks_first f (λ n m. address (u n) false (host_of (place_of m e))) h (λ z n b t. (
               remove_address_own (u n) (zone_of z) _ (present t h) (held t true o),
@@ -259,27 +236,23 @@ module _ (s : Survey) (d : Dhcid) (family : ℕ) (a : Address) where
     abbrev asks_second : Name → rules.Zone → Outcome
     asks_second n = remove_name (u n)
 
-    pub name_absent : (r : Change) → ¬ (s.found < 64) → SaysOnly 8 r → Decides asks_second s e r
-    unfolding number_of
-    name_absent r h i = only asks_second r NXRRSET i (λ z n b t. remove_name_absent (u n) (zone_of z) (absent n t.form t.found h))
+    pub name_absent : ¬ (s.found < 64) → Decides asks_second s e (Stays NxRrset)
+    name_absent h = only asks_second NxRrset (λ z n b t. remove_name_absent (u n) (zone_of z) (absent n t.form t.found h))
 
     -- without an address, or not
     abbrev Bare : Bool → Type 0
     Bare x = (n : Name) → empty (host_of (place_of n e)) ≡ x
 
     module _ (h : s.found < 64) where
-      pub name_other : (r : Change) → Held false → SaysOnly 8 r → Decides asks_second s e r
-      unfolding number_of
-      name_other r o i = only asks_second r NXRRSET i (λ z n b t. remove_name_other (u n) (zone_of z) _ (present t h) (held t false o))
+      pub name_other : Held false → Decides asks_second s e (Stays NxRrset)
+      name_other o = only asks_second NxRrset (λ z n b t. remove_name_other (u n) (zone_of z) _ (present t h) (held t false o))
 
-      pub name_kept : (r : Change) → Held true → Bare false → SaysOnly 7 r → Decides asks_second s e r
-      unfolding number_of
-      name_kept r o v i = only asks_second r YXRRSET i (λ z n b t. remove_name_kept (u n) (zone_of z) _ (present t h) (held t true o) (v (it t).name))
+      pub name_kept : Held true → Bare false → Decides asks_second s e (Stays YxRrset)
+      name_kept o v = only asks_second YxRrset (λ z n b t. remove_name_kept (u n) (zone_of z) _ (present t h) (held t true o) (v (it t).name))
 
-      pub name_gone : (f : Records) → Held true → Bare true → f.kind ≡ 0 → Decides asks_second s e (writes_at s.found f)
+      pub name_gone : (f : Records) → Held true → Bare true → f.kind ≡ 0 → Decides asks_second s e (Writes f)
       unfolding number_of
       name_gone f o v k = record {
-        place_is = λ q. refl;
         decides = λ z n b t.
             write z _ _ _ _ (put (u n).name none (zone_of z)) (remove_name_gone (u n) (zone_of z) _ (present t h) (held t true o) (v (it t).name)) refl h
             (unfold update_of in found_freed z t.form (name_of n) blank s.found t.found.found_is h (place_of (it t).name f) k)

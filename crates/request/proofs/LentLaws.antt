@@ -1,6 +1,5 @@
 -- What a call's promise on a lent zone is made of. Assumes nothing.
 use mathlib.Core.Path.{◌≡◌, refl, sym, ◌∙◌, ap, subst}
-use mathlib.Core.Bool.{true}
 use mathlib.Core.List.{List}
 use Prim.Native.Nat.{ℕ, ◌<◌}
 use native.Mathlib.Decide.{ℕ_discrete}
@@ -14,8 +13,7 @@ use Rattle.zone.specs.declared.entry.Records.{Records}
 use Rattle.zone.specs.declared.Zone.{Zone}
 use Rattle.zone.specs.declared.survey.Survey.{Survey}
 use Rattle.dname.specs.Name.{name_of}
-use Rattle.zone.specs.Meaning.{formed}
-use Rattle.zone.specs.Survey.{place_of, records_of}
+use Rattle.zone.specs.Survey.{Surveyed, place_of, records_of}
 use Rattle.zone.proofs.SurveyLaws.{blank}
 use Rattle.update.specs.Rules as rules
 use Rattle.update.specs.Rules.{Outcome}
@@ -24,12 +22,14 @@ use Rattle.lentzone.specs.Decode.{zone_in}
 use Rattle.lentzone.specs.Inner.{SurveyedIn, records_at, name_at, Written}
 use Rattle.lentzone.proofs.DecodeLaws.{one_place_same}
 use Rattle.lentzone.proofs.PlaceLaws.{place_at}
-use Rattle.request.specs.declared.lent.RequestAnswer.{RequestAnswer}
-use Rattle.request.specs.declared.decide.Change.{Change}
-use Rattle.request.specs.Promise.{refusal_of, Promised}
+use Rattle.request.specs.declared.answer.Answer.{Answer as Said}
+use Rattle.request.specs.declared.decide.Change.TheVariants.{Stays, Writes}
+use Rattle.request.specs.Promise.{number_of, refusal_of, Promised}
 use Rattle.request.specs.Lent.{refusal_in, answered, PromisedIn}
-use Rattle.request.specs.Inner.{written, Spells, Decided, Adds, Decides, Refuses}
-use Rattle.request.proofs.PromiseLaws.{passed, promise_done, promise_same}
+use Rattle.request.specs.Inner.{Decided, Seen, Adds, Decides, Refuses}
+use Rattle.request.specs.Answers.{means}
+use Rattle.request.proofs.PromiseLaws.{Passed, not_refused, no_place, promise_done, decided_as}
+use Rattle.request.proofs.PlaceLaws.{formed_places}
 
 module _ (z : List ℕ) (n : Octets) (family policy : ℕ) where
   pub refusal_size : ¬ (length z ≡ 23936) → 17 ≡ refusal_in z n family policy
@@ -49,12 +49,12 @@ module _ (z : List ℕ) (n : Octets) (family policy : ℕ) where
         go (yes l) = r.refuses (zone_in z) (v.surveyed l) ∙ refusal_in_lem l
         go (no m) = r.broken (ap (λ (x : Survey). x.inorder) (v.otherwise m)) ∙ refusal_size m
 
-    pub zone_there : k ≡ 0 → length z ≡ 23936
-    zone_there q = go (ℕ_discrete (length z) 23936)
-      where
-        go : Dec (length z ≡ 23936) → length z ≡ 23936
-        go (yes l) = l
-        go (no m) = let e : k ≡ 17 = refused_in ∙ sym (refusal_size m) in absurd (omega arith)
+  pub zone_there : refusal_in z n family policy ≡ 0 → length z ≡ 23936
+  zone_there q = go (ℕ_discrete (length z) 23936)
+    where
+      go : Dec (length z ≡ 23936) → length z ≡ 23936
+      go (yes l) = l
+      go (no m) = let e : ◌≡◌ {A = ℕ} 17 0 = refusal_size m ∙ q in absurd (omega arith)
 
   module _ (request : rules.Zone → Outcome) where
     abbrev refusal : ℕ
@@ -71,66 +71,70 @@ module _ (z : List ℕ) (n : Octets) (family policy : ℕ) where
           promised = record { refusal_is = p; answer_is = rw (ne_eqb refusal 0 m); kept = λ q. refl; unchanged = λ q. refl; done = λ q. absurd (m q); formed_again = λ q. absurd (m q); spelled = λ q. absurd (m q) };
         }
 
-    pub promised_done : (answer place : ℕ) (e : Entry) (k : ℕ) (after : List ℕ) → length z ≡ 23936 → k ≡ refusal_of (zone_in z) n family policy → k ≡ 0
-        → Decided n (zone_in z) (request (zone_of (zone_in z))) answer place e → Written z place e after → PromisedIn z n refusal request after (record { refusal = 0; answer = answer })
-    promised_done answer place e k after l p q c t =
-        let r : refusal ≡ 0 = sym (refusal_in_lem l) ∙ sym p ∙ q in
-        record {
-          size = t.size;
-          same = λ m. absurd (m r);
-          unchanged = λ m. let h : ¬ (place < 64) = λ h. c.needed h m in t.stays (omega arith);
-          elsewhere = t.elsewhere;
-          promised =
-              subst (λ (r : ℕ). Promised (zone_in z) n r (request (zone_of (zone_in z))) (answered after (record { refusal = 0; answer = answer }))) (refusal_in_lem l)
-              (promise_same (zone_in z) n family policy request request _ _ refl
-              (ap (λ (x : Zone). record { refusal = 0; answer = answer; zone = x }) (t.writes l))
-              (promise_done (zone_in z) n family policy request k answer place e p q c));
-        }
+    module _ (r : refusal ≡ 0) where
+      pub by_value : refusal_of (zone_in z) n family policy ≡ 0
+      by_value = refusal_in_lem (zone_there r) ∙ r
 
-    -- a request of a kind is the one that the rules name
-    pub promised_same : (other : rules.Zone → Outcome) (after : List ℕ) (r : RequestAnswer) → ((x : rules.Zone) → other x ≡ request x) → PromisedIn z n refusal request after r → PromisedIn z n refusal other after r
-    promised_same other after r e p = record {
-      size = p.size;
-      same = p.same;
-      unchanged = λ k. p.unchanged (ap (λ (o : Outcome). o.zone) (sym (e (zone_of (zone_in z)))) ∙ k);
-      elsewhere = p.elsewhere;
-      promised = subst (λ (o : Outcome). Promised (zone_in z) n refusal o (answered after r)) (sym (e (zone_of (zone_in z)))) p.promised;
-    }
+      pub promised_done : (answer place : ℕ) (e : Entry) (after : List ℕ) → Decided n (zone_in z) (request (zone_of (zone_in z))) answer place e → Written z place e after
+          → PromisedIn z n refusal request after (record { refusal = 0; answer = answer })
+      promised_done answer place e after c t =
+          record {
+            size = t.size;
+            same = λ m. absurd (m r);
+            unchanged = λ m. let h : ¬ (place < 64) = λ h. c.needed h m in t.stays (omega arith);
+            elsewhere = t.elsewhere;
+            promised =
+                subst (λ (k : ℕ). Promised (zone_in z) n k (request (zone_of (zone_in z))) (answered after (record { refusal = 0; answer = answer }))) (refusal_in_lem (zone_there r))
+                (subst (λ (x : Zone). Promised (zone_in z) n (refusal_of (zone_in z) n family policy) (request (zone_of (zone_in z))) (record { refusal = 0; answer = answer; zone = x })) (sym (t.writes (zone_there r)))
+                (promise_done (zone_in z) n family policy request answer place e by_value c));
+          }
+
+      -- nothing is written
+      pub promised_stays : (answer : ℕ) → ((e : Entry) → Decided n (zone_in z) (request (zone_of (zone_in z))) answer 64 e) → PromisedIn z n refusal request z (record { refusal = 0; answer = answer })
+      promised_stays answer c =
+          promised_done answer 64 blank z (c blank)
+          (record {
+            size = refl;
+            no_zone = λ m. refl;
+            stays = λ m. refl;
+            elsewhere = one_place_same z;
+            writes = λ l. sym (no_place (zone_in z) 64 blank (formed_places (zone_in z) (not_refused (zone_in z) n family policy by_value).form) (omega arith));
+          })
 
 -- ---- decisions, and one place written
 
--- an entry that is written nowhere may be any
-decided_as : {n : Octets} {z : Zone} {right : Outcome} {answer place : ℕ} (e f : Entry) → (place < 64 → e ≡ f) → Decided n z right answer place e → Decided n z right answer place f
-decided_as {n} {z} {right} {answer} {place} e f q c = record {
-  answer_is = c.answer_is;
-  stays = c.stays;
-  writes = λ h. subst (λ (x : Entry). (formed (written z place x) ≡ true) × (zone_of (written z place x) ≡ right.zone) × Spells n z (written z place x)) (q h) (c.writes h);
-  needed = c.needed;
-}
-
-module _ (z : List ℕ) (n : Name) (family policy : ℕ) (s : Survey) (k : ℕ) (v : SurveyedIn z (name_of n) s) (r : Refuses (name_of n) family policy s k) (q : k ≡ 0) (request : Name → rules.Zone → Outcome) (w : Change)
-    (after : List ℕ) where
-  abbrev Kept : Type 0
-  Kept = PromisedIn z (name_of n) (refusal_in z (name_of n) family policy) (request n) after (record { refusal = 0; answer = w.answer })
+module _ (z : List ℕ) (n : Name) (family policy : ℕ) (s : Survey) (v : SurveyedIn z (name_of n) s) (q : refusal_in z (name_of n) family policy ≡ 0) (request : Name → rules.Zone → Outcome) where
+  abbrev Kept : List ℕ → ℕ → Type 0
+  Kept after answer = PromisedIn z (name_of n) (refusal_in z (name_of n) family policy) (request n) after (record { refusal = 0; answer = answer })
 
   size : length z ≡ 23936
-  size = zone_there z (name_of n) family policy s k v r q
+  size = zone_there z (name_of n) family policy q
 
-  refuses : k ≡ refusal_of (zone_in z) (name_of n) family policy
-  refuses = r.refuses (zone_in z) (v.surveyed size)
+  passes : Passed (zone_in z) (name_of n) family policy
+  passes = not_refused (zone_in z) (name_of n) family policy (by_value z (name_of n) family policy (request n) q)
 
-  pub promised_adds : Adds request s w → Written z w.place (place_of n w.records) after → Kept
-  promised_adds d t =
-      let p = passed (zone_in z) (name_of n) family policy k refuses q in
-      promised_done z (name_of n) family policy (request n) w.answer w.place (place_of n w.records) k after size refuses q
-      (d.adds (zone_in z) n p.form p.name (v.surveyed size).places) t
+  surveyed : Surveyed (zone_in z) (name_of n) s
+  surveyed = v.surveyed size
 
-  pub promised_decides : (e : Records) → e ≡ records_at z s.found → Decides request s e w → Written z w.place (place_of (name_at z w.place) w.records) after → Kept
-  promised_decides e f d t =
-      let p = passed (zone_in z) (name_of n) family policy k refuses q in
-      promised_done z (name_of n) family policy (request n) w.answer w.place (place_of (name_at z w.place) w.records) k after size refuses q
-      (decided_as (place_of (get_or (zone_in z).entries w.place blank).name w.records) (place_of (name_at z w.place) w.records)
-      (λ h. ap (λ (x : Entry). place_of x.name w.records) (sym (place_at z w.place size h blank)))
-      (d.decides (zone_in z) n blank
-      (record { form = p.form; found = (v.surveyed size).places; records_is = λ h. f ∙ ap records_of (place_at z s.found size h blank) })))
-      t
+  -- ---- request A
+  pub adds_stays : (a : Said) → Adds request s (Stays a) → Kept z (number_of (means a))
+  adds_stays a d = promised_stays z (name_of n) family policy (request n) q _ (d.adds (zone_in z) n passes.form passes.name surveyed.places)
+
+  pub promised_adds : (r : Records) (after : List ℕ) → Adds request s (Writes r) → Written z s.free (place_of n r) after → Kept after 0
+  promised_adds r after d t = promised_done z (name_of n) family policy (request n) q 0 s.free (place_of n r) after (d.adds (zone_in z) n passes.form passes.name surveyed.places) t
+
+  -- ---- any other
+  module _ (e : Records) (f : e ≡ records_at z s.found) where
+    seen : Seen (zone_in z) n blank s e
+    seen = record { form = passes.form; found = surveyed.places; records_is = λ h. f ∙ ap records_of (place_at z s.found size h blank) }
+
+    pub decides_stays : (a : Said) → Decides request s e (Stays a) → Kept z (number_of (means a))
+    decides_stays a d = promised_stays z (name_of n) family policy (request n) q _ (d.decides (zone_in z) n blank seen)
+
+    pub promised_decides : (r : Records) (after : List ℕ) → Decides request s e (Writes r) → Written z s.found (place_of (name_at z s.found) r) after → Kept after 0
+    promised_decides r after d t =
+        promised_done z (name_of n) family policy (request n) q 0 s.found (place_of (name_at z s.found) r) after
+        (decided_as (place_of (get_or (zone_in z).entries s.found blank).name r) (place_of (name_at z s.found) r)
+        (λ h. ap (λ (x : Entry). place_of x.name r) (sym (place_at z s.found size h blank)))
+        (d.decides (zone_in z) n blank seen))
+        t

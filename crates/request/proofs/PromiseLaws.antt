@@ -1,35 +1,34 @@
 -- The refusals in their order, and what a call's promise is made of. Assumes nothing.
 use mathlib.Core.Path.{◌≡◌, refl, sym, ◌∙◌, ap, subst}
-use mathlib.Core.Bool.{Bool, true, false, cond, ◌&&◌, and-false}
+use mathlib.Core.Bool.{Bool, true, false, cond, ◌&&◌}
 use mathlib.Core.List.{List}
 use Prim.Native.Nat.{ℕ, ◌≤◌, ◌<◌}
 use native.Mathlib.Omega.{arith}
-use lib.Dec.{eqb, ltb}
+use lib.Dec.{ltb}
 use lib.ListN.{length, get_or}
 use lib.Seq.{set_out}
 use borrow.Author.Tests.{eq-eqb, ne_eqb, ltb-true, ltb-false}
 use borrow.Table.Steps.{cases}
 use Rattle.octets.specs.Count.{Octets, distinct}
 use Rattle.dname.specs.declared.name.Name.{Name}
-use Rattle.zone.specs.declared.entry.Address.{Address}
-use Rattle.zone.specs.declared.entry.Dhcid.{Dhcid}
 use Rattle.zone.specs.declared.entry.Entry.{Entry}
 use Rattle.zone.specs.declared.entry.Records.{Records}
 use Rattle.zone.specs.declared.Zone.{Zone}
 use Rattle.zone.specs.declared.survey.Visit.{Visit}
 use Rattle.request.specs.declared.decide.Change.{Change}
-use Rattle.request.specs.declared.Effect.{Effect}
-use Rattle.request.specs.declared.Request.{Request}
-use Rattle.request.specs.declared.Answered.{Answered}
+use Rattle.request.specs.declared.decide.Change.TheVariants.{Stays, Writes}
 use Rattle.update.specs.Rules as rules
-use Rattle.update.specs.Rules.{Update, Outcome}
+use Rattle.update.specs.Rules.{Outcome}
 use Rattle.dname.specs.Name.{name_of, is_full}
 use Rattle.zone.specs.Meaning.{keys, all_in_order, formed}
-use Rattle.update.specs.Meaning.{zone_of, update_of, listed}
-use Rattle.update.specs.Spelling.{spelling_of, respelled}
-use Rattle.request.specs.Promise.{number_of, refusal_of, Promised, RequestPromise}
-use Rattle.zone.specs.Survey.{Visited, place_of, records_of}
-use Rattle.request.specs.Inner.{request_of, request_with, written, settled, effect_at, Settles, Spells, Decided, Adds, Decides, Comes}
+use Rattle.update.specs.Meaning.{zone_of, listed}
+use Rattle.update.specs.Spelling.{spelling_of}
+use Rattle.request.specs.Promise.{number_of, refusal_of, Promised}
+use Rattle.zone.specs.declared.survey.Survey.{Survey}
+use Rattle.zone.specs.Survey.{Surveyed, Visited, place_of, records_of}
+use Rattle.zone.proofs.SurveyLaws.{blank}
+use Rattle.request.specs.Answers.{means}
+use Rattle.request.specs.Inner.{written, settled, Settles, Spells, Decided, Changes, Adds, Decides}
 use Rattle.request.proofs.PlaceLaws.{formed_places}
 use Rattle.request.proofs.SpellingLaws.{spells_same, spelled_by}
 
@@ -77,9 +76,6 @@ module _ (z : Zone) (n : Octets) (family policy : ℕ) where
       wrong : (m : ℕ) → refusal_of z n family policy ≡ m → ¬ (m ≡ 0) → ⊥
       wrong m q d = d (sym q ∙ e)
 
-  pub passed : (k : ℕ) → k ≡ refusal_of z n family policy → k ≡ 0 → Passed
-  passed k p q = not_refused (sym p ∙ q)
-
   -- the check says 17 exactly when the form fails
   pub says_17 : refusal_of z n family policy ≡ 17 → formed z ≡ false
   says_17 e =
@@ -99,26 +95,22 @@ formed_is : (z : Zone) (inorder names : Bool) → length z.entries ≡ 64 → in
 unfolding formed
 formed_is z inorder names l p q = rw (eq-eqb (length z.entries) 64 l, p, q)
 
-module _ (z : Zone) (n : Octets) (family policy : ℕ) (inorder : Bool) (l : length z.entries ≡ 64) (p : inorder ≡ all_in_order z.entries) where
-  pub refused_order : inorder ≡ false → 17 ≡ refusal_of z n family policy
-  refused_order o = sym (refusal_form z n family policy (formed_is z inorder (distinct (keys z.entries)) l p refl ∙ rw o))
+module _ (z : Zone) (n : Octets) (family policy : ℕ) (s : Survey) (v : Surveyed z n s) where
+  by_survey : formed z ≡ (s.inorder && s.distinct)
+  by_survey = formed_is z s.inorder s.distinct v.places.places_are v.places.order_is v.distinct_is
 
-  module _ (names : Bool) (q : names ≡ distinct (keys z.entries)) where
-    pub refused_names : names ≡ false → 17 ≡ refusal_of z n family policy
-    refused_names d = sym (refusal_form z n family policy (formed_is z inorder names l p q ∙ rw (d, and-false)))
+  pub refused_form : (s.inorder && s.distinct) ≡ false → 17 ≡ refusal_of z n family policy
+  refused_form f = sym (refusal_form z n family policy (by_survey ∙ f))
 
-    module _ (o : inorder ≡ true) (d : names ≡ true) where
-      form : formed z ≡ true
-      form = formed_is z inorder names l p q ∙ rw (o, d)
+  module _ (f : (s.inorder && s.distinct) ≡ true) where
+    pub refused_number : listed family policy ≡ false → 18 ≡ refusal_of z n family policy
+    refused_number l = sym (refusal_number z n family policy (by_survey ∙ f) l)
 
-      pub refused_number : listed family policy ≡ false → 18 ≡ refusal_of z n family policy
-      refused_number t = sym (refusal_number z n family policy form t)
+    pub refused_name : listed family policy ≡ true → is_full n ≡ false → 11 ≡ refusal_of z n family policy
+    refused_name l m = sym (refusal_name z n family policy (by_survey ∙ f) l m)
 
-      pub refused_name : listed family policy ≡ true → is_full n ≡ false → 11 ≡ refusal_of z n family policy
-      refused_name t m = sym (refusal_name z n family policy form t m)
-
-      pub refused_nothing : listed family policy ≡ true → is_full n ≡ true → 0 ≡ refusal_of z n family policy
-      refused_nothing t m = sym (refusal_none z n family policy form t m)
+    pub refused_nothing : listed family policy ≡ true → is_full n ≡ true → 0 ≡ refusal_of z n family policy
+    refused_nothing l m = sym (refusal_none z n family policy (by_survey ∙ f) l m)
 
 -- ---- promises
 
@@ -130,16 +122,14 @@ module _ (z : Zone) (n : Octets) (family policy : ℕ) (request : rules.Zone →
   abbrev refusal : ℕ
   refusal = refusal_of z n family policy
 
-  pub promise_refused : (k : ℕ) (e : Entry) → length z.entries ≡ 64 → k ≡ refusal → ¬ (k ≡ 0)
-      → Promised z n refusal (request (zone_of z)) (settled z (record { refusal = k; answer = 0; place = 64; entry = e }))
-  promise_refused k e l p d =
+  pub promise_refused : (k : ℕ) → k ≡ refusal → ¬ (k ≡ 0) → Promised z n refusal (request (zone_of z)) (record { refusal = k; answer = 0; zone = z })
+  promise_refused k p d =
       let m : ¬ (refusal ≡ 0) = λ q. d (p ∙ q) in
-      record { refusal_is = p; answer_is = rw (ne_eqb refusal 0 m); kept = λ q. no_place z 64 e l (omega arith); unchanged = λ q. no_place z 64 e l (omega arith); done = λ q. absurd (m q); formed_again = λ q. absurd (m q); spelled = λ q. absurd (m q) }
+      record { refusal_is = p; answer_is = rw (ne_eqb refusal 0 m); kept = λ q. refl; unchanged = λ q. refl; done = λ q. absurd (m q); formed_again = λ q. absurd (m q); spelled = λ q. absurd (m q) }
 
-  pub promise_done : (k answer place : ℕ) (e : Entry) → k ≡ refusal → k ≡ 0 → Decided n z (request (zone_of z)) answer place e
+  pub promise_done : (answer place : ℕ) (e : Entry) → refusal ≡ 0 → Decided n z (request (zone_of z)) answer place e
       → Promised z n refusal (request (zone_of z)) (record { refusal = 0; answer = answer; zone = written z place e })
-  promise_done k answer place e p q c =
-      let r : refusal ≡ 0 = sym p ∙ q in
+  promise_done answer place e r c =
       let g : formed z ≡ true = (not_refused z n family policy r).form in
       record {
         refusal_is = sym r;
@@ -163,63 +153,39 @@ module _ (z : Zone) (n : Octets) (family policy : ℕ) (request : rules.Zone →
           let h : ¬ (place < 64) = λ q. omega arith in
           (ap zone_of (same g h) ∙ c.stays h, ap formed (same g h) ∙ g, spells_same n z (written z place e) (ap spelling_of (same g h)))
 
-  -- a request of a kind is the one that the rules name
-  pub promise_same : (other : rules.Zone → Outcome) (r q : Answered) → other (zone_of z) ≡ request (zone_of z) → q ≡ r → Promised z n refusal (request (zone_of z)) r → Promised z n refusal (other (zone_of z)) q
-  promise_same other r q e f p =
-      record {
-        refusal_is = ap (λ (a : Answered). a.refusal) f ∙ p.refusal_is;
-        answer_is = ap (λ (a : Answered). a.answer) f ∙ p.answer_is ∙ ap (λ (o : Outcome). cond (eqb refusal 0) (number_of o.answer) 0) (sym e);
-        kept = λ k. ap (λ (a : Answered). a.zone) f ∙ p.kept k;
-        unchanged = λ k. ap (λ (a : Answered). a.zone) f ∙ p.unchanged (ap (λ (o : Outcome). o.zone) (sym e) ∙ k);
-        done = λ k. ap (λ (a : Answered). zone_of a.zone) f ∙ p.done k ∙ ap (λ (o : Outcome). o.zone) (sym e);
-        formed_again = λ k. ap (λ (a : Answered). formed a.zone) f ∙ p.formed_again k;
-        spelled = λ k. ap (λ (a : Answered). spelling_of a.zone) f ∙ p.spelled k ∙ ap (λ (o : Outcome). respelled n o.zone (spelling_of z)) (sym e);
-      }
-
--- ---- a request by value: what it is, what it comes to, and that one place is written
-
-pub request_kept : (kind : ℕ) (rule : Update → rules.Zone → Outcome) (z : Zone) (n : Name) (d : Dhcid) (family : ℕ) (a : Address) (policy : ℕ)
-    (q : Request) (w : Effect) (r : Answered)
-    → request_of kind policy (update_of n d family a) (zone_of z) ≡ rule (update_of n d family a) (zone_of z)
-    → q ≡ request_with kind n d family a policy → Settles z q w → r ≡ settled z w → RequestPromise rule z n d family a policy r
-request_kept kind rule z n d family a policy q w r e i p f =
-    promise_same z (name_of n) family policy (request_of kind policy (update_of n d family a)) (rule (update_of n d family a)) (settled z w) r (sym e) f
-    (subst (λ (x : Request). Settles z x w) i p)
+  -- a change at a place, under the name that is to stand there
+  pub promise_changed : (place : ℕ) (name : Name) (w : Change) → refusal ≡ 0 → Changes n z (request (zone_of z)) place name w → Settles request z n family policy (settled z place name w)
+  promise_changed place name (Stays a) r c =
+      let g : formed z ≡ true = (not_refused z n family policy r).form in
+      subst (λ (x : Zone). Promised z n refusal (request (zone_of z)) (record { refusal = 0; answer = number_of (means a); zone = x })) (no_place z 64 blank (formed_places z g) (omega arith))
+      (promise_done (number_of (means a)) 64 blank r (c blank))
+  promise_changed place name (Writes f) r c = promise_done 0 place (place_of name f) r c
 
 -- ---- decisions on what was visited
 
-module _ (n : Name) (v : Visit) where
-  pub comes_adds : (request : Name → rules.Zone → Outcome) (other : rules.Zone → Outcome) → request n ≡ other → (w : Change) (x : Effect) → x ≡ effect_at n w → Adds request v.survey w
-      → Comes other (name_of n) v x
-  comes_adds request other q w x p d =
-      subst (λ (y : Effect). Comes other (name_of n) v y) (sym p)
-      (subst (λ (f : rules.Zone → Outcome). Comes f (name_of n) v (effect_at n w)) q
-      (record { refusal_is = refl; comes = λ z g m t. d.adds z n g m t.surveyed.places }))
+-- an entry that is written nowhere may be any
+pub decided_as : {n : Octets} {z : Zone} {right : Outcome} {answer place : ℕ} (e f : Entry) → (place < 64 → e ≡ f) → Decided n z right answer place e → Decided n z right answer place f
+decided_as {n} {z} {right} {answer} {place} e f q c = record {
+  answer_is = c.answer_is;
+  stays = c.stays;
+  writes = λ h. subst (λ (x : Entry). (formed (written z place x) ≡ true) × (zone_of (written z place x) ≡ right.zone) × Spells n z (written z place x)) (q h) (c.writes h);
+  needed = c.needed;
+}
 
-  pub comes_decides : (request : Name → rules.Zone → Outcome) (e : Records) (w : Change) (x : Effect) → e ≡ records_of v.entry → x ≡ effect_at v.entry.name w
-      → Decides request v.survey e w → Comes (request n) (name_of n) v x
-  comes_decides request e w x q p d =
-      subst (λ (y : Effect). Comes (request n) (name_of n) v y) (sym p) (record { refusal_is = refl; comes = λ z g m t. stays_named z t (d.decides z n v.entry (record { form = g; found = t.surveyed.places; records_is = λ h. q ∙ ap records_of (t.entry_is v.entry h) })) })
+module _ (z : Zone) (n : Name) (family policy : ℕ) (v : Visit) (q : refusal_of z (name_of n) family policy ≡ 0) (t : Visited z (name_of n) v) (request : Name → rules.Zone → Outcome) (w : Change) where
+  passes : Passed z (name_of n) family policy
+  passes = not_refused z (name_of n) family policy q
+
+  pub comes_adds : Adds request v.survey w → Settles (request n) z (name_of n) family policy (settled z v.survey.free n w)
+  comes_adds d = promise_changed z (name_of n) family policy (request n) v.survey.free n w q (d.adds z n passes.form passes.name t.surveyed.places)
+
+  pub comes_decides : (e : Records) → e ≡ records_of v.entry → Decides request v.survey e w → Settles (request n) z (name_of n) family policy (settled z v.survey.found v.entry.name w)
+  comes_decides e f d =
+      promise_changed z (name_of n) family policy (request n) v.survey.found v.entry.name w q
+      (stays_named w (d.decides z n v.entry (record { form = passes.form; found = t.surveyed.places; records_is = λ h. f ∙ ap records_of (t.entry_is v.entry h) })))
     where
-      -- the name that stands at the place written is the one visited
-      name : (z : Zone) → Visited z (name_of n) v → w.place < 64 → (get_or z.entries w.place v.entry).name ≡ v.entry.name
-      name z t h =
-          let k = d.place_is h in
-          ap (λ (i : ℕ). (get_or z.entries i v.entry).name) k ∙ ap (λ (y : Entry). y.name) (sym (t.entry_is v.entry (omega arith)))
-
-      stays_named : (z : Zone) → Visited z (name_of n) v → Decided (name_of n) z (request n (zone_of z)) w.answer w.place (place_of (get_or z.entries w.place v.entry).name w.records)
-          → Decided (name_of n) z (request n (zone_of z)) w.answer w.place (place_of v.entry.name w.records)
-      stays_named z t c = record {
-        answer_is = c.answer_is;
-        stays = c.stays;
-        writes = λ h. subst (λ (m : Name). (formed (written z w.place (place_of m w.records)) ≡ true) × (zone_of (written z w.place (place_of m w.records)) ≡ (request n (zone_of z)).zone) × Spells (name_of n) z (written z w.place (place_of m w.records))) (name z t h) (c.writes h);
-        needed = c.needed;
-      }
-
-pub promise_visited : (z : Zone) (n : Octets) (family policy : ℕ) (request : rules.Zone → Outcome) (k : ℕ) (v : Visit) (x : Effect) → k ≡ refusal_of z n family policy → k ≡ 0
-    → Visited z n v → Comes request n v x → Promised z n (refusal_of z n family policy) (request (zone_of z)) (settled z x)
-promise_visited z n family policy request k v x p q t d =
-    let o = passed z n family policy k p q in
-    promise_same z n family policy request request _ _ refl
-    (ap (λ (m : ℕ). record { refusal = m; answer = x.answer; zone = written z x.place x.entry }) d.refusal_is)
-    (promise_done z n family policy request k x.answer x.place x.entry p q (d.comes z o.form o.name t))
+      -- the name that stands at the place found is the one visited
+      stays_named : (x : Change) → Changes (name_of n) z (request n (zone_of z)) v.survey.found (get_or z.entries v.survey.found v.entry).name x
+          → Changes (name_of n) z (request n (zone_of z)) v.survey.found v.entry.name x
+      stays_named (Stays a) c = c
+      stays_named (Writes r) c = decided_as _ _ (λ h. ap (λ (y : Entry). place_of y.name r) (sym (t.entry_is v.entry h))) c

@@ -1,5 +1,5 @@
 -- What inner functions decide, on a survey of the zone. No promise of an exported call cites these.
-use Rattle.std.specs.Prelude.{◌≡◌, List, Bool, true, false, cond, ◌&&◌, ℕ, ◌+◌, ◌<◌, eqb, get_or, set}
+use Rattle.std.specs.Prelude.{◌≡◌, List, Bool, true, false, ◌&&◌, ℕ, ◌+◌, ◌<◌, eqb, get_or, set, Result, Ok}
 use Rattle.std.proofs.Math.Option.{some}
 use Rattle.octets.specs.Count.{Octets}
 use Rattle.addresses.specs.Addresses.{Family, four, six, nothing}
@@ -15,14 +15,20 @@ use Rattle.dname.specs.Name.{name_of, is_full}
 use Rattle.zone.specs.Meaning.{in_order, formed}
 use Rattle.zone.specs.Survey.{Found, Surveyed, Visited, place_of, records_of}
 use Rattle.request.specs.declared.decide.Change.{Change}
+use Rattle.request.specs.declared.decide.Change.TheVariants.{Stays, Writes}
+use Rattle.request.specs.declared.decide.Update.{Update as Sent}
+use Rattle.request.specs.declared.refusal.Refusal.{Refusal}
 use Rattle.request.specs.declared.Answered.{Answered}
-use Rattle.request.specs.declared.Effect.{Effect}
-use Rattle.request.specs.declared.Request.{Request}
 use Rattle.update.specs.Rules as rules
-use Rattle.update.specs.Rules.{Host, Update, Policy, keep_others, one_of_family, only_this, own_family, with_address, without_address, new_host, fits, Outcome, request_a, request_b, remove_address, remove_name}
+use Rattle.update.specs.Rules.{Host, Update, Policy, keep_others, one_of_family, only_this, own_family, with_address, without_address, new_host, fits, Outcome}
 use Rattle.update.specs.Meaning.{host_of, zone_of, family_of, policy_of, address_of, update_of}
 use Rattle.update.specs.Spelling.{spelling_of, kept}
+use Rattle.request.specs.Answers.{means, refusal_number, refused}
 use Rattle.request.specs.Promise.{number_of, refusal_of, Promised}
+use Rattle.lentzone.specs.Inner.{SurveyedIn}
+use Rattle.request.specs.declared.answer.Answer.{Answer as Said}
+use Rattle.request.specs.declared.lent.RequestAnswer.{RequestAnswer}
+use Rattle.request.specs.Lent.{refusal_in}
 
 -- the refusal that follows from a survey
 pub record Refuses (n : Octets) (family policy : ℕ) (s : Survey) (r : ℕ) : Type 0 where
@@ -30,36 +36,30 @@ pub record Refuses (n : Octets) (family policy : ℕ) (s : Survey) (r : ℕ) : T
   -- of whatever the survey is
   pub broken : s.inorder ≡ false → r ≡ 17
 
--- a name by its octets and its length
-abbrev pub name_in : List ℕ → ℕ → Name
-name_in o len = record { octets = o; len = len }
+-- what was visited, unless the request is refused
+pub record Visits (z : Zone) (n : Octets) (family policy : ℕ) (r : Result Visit Refusal) : Type 0 where
+  pub refusal_is : refused r ≡ refusal_of z n family policy
+  pub visited : (v : Visit) → r ≡ Ok v → Visited z n v
 
--- ---- the requests by the numbers of src/kind.rt; any other number counts as the second remove request
-
-unfoldable pub request_of : ℕ → ℕ → Update → rules.Zone → Outcome
-request_of kind policy u z =
-    cond (eqb kind 1) (request_a u z) (cond (eqb kind 2) (request_b (policy_of policy) u z) (cond (eqb kind 3) (remove_address u z) (remove_name u z)))
-
-abbrev pub request_with : ℕ → Name → Dhcid → ℕ → Address → ℕ → Request
-request_with kind n d family a policy = record { kind = kind; family = family; policy = policy; name = n; dhcid = d; address = a }
-
-abbrev pub asks : Request → rules.Zone → Outcome
-asks q = request_of q.kind q.policy (update_of q.name q.dhcid q.family q.address)
+-- the update that is sent about a name
+abbrev pub update_at : Sent → Name → Update
+update_at u n = update_of n u.dhcid u.family u.address
 
 -- ---- what a request comes to: an answer, and one place written, or none where there is no such place
 
 abbrev pub written : Zone → ℕ → Entry → Zone
 written z place e = record { entries = set z.entries place e }
 
-abbrev pub settled : Zone → Effect → Answered
-settled z w = record { refusal = w.refusal; answer = w.answer; zone = written z w.place w.entry }
+abbrev pub refused_zone : Zone → Refusal → Answered
+refused_zone z r = record { refusal = refusal_number r; answer = 0; zone = z }
 
-abbrev pub effect_at : Name → Change → Effect
-effect_at n w = record { refusal = 0; answer = w.answer; place = w.place; entry = place_of n w.records }
+abbrev pub settled : Zone → ℕ → Name → Change → Answered
+settled z place n (Stays a) = record { refusal = 0; answer = number_of (means a); zone = z }
+settled z place n (Writes r) = record { refusal = 0; answer = 0; zone = written z place (place_of n r) }
 
--- what is promised of a request holds once its place is written
-abbrev pub Settles : Zone → Request → Effect → Type 0
-Settles z q w = Promised z (name_of q.name) (refusal_of z (name_of q.name) q.family q.policy) (asks q (zone_of z)) (settled z w)
+-- what is promised of a request by value
+abbrev pub Settles : (rules.Zone → Outcome) → Zone → Octets → ℕ → ℕ → Answered → Type 0
+Settles request z n family policy r = Promised z n (refusal_of z n family policy) (request (zone_of z)) r
 
 -- each name that stands after a request is spelled as it was, and a name that did not stand as the request has it
 abbrev pub Spells : Octets → Zone → Zone → Type 0
@@ -72,16 +72,16 @@ pub record Decided (n : Octets) (z : Zone) (right : Outcome) (answer place : ℕ
   pub writes : place < 64 → (formed (written z place e) ≡ true) × (zone_of (written z place e) ≡ right.zone) × Spells n z (written z place e)
   pub needed : place < 64 → ¬ (right.zone ≡ zone_of z)
 
--- an answer, and no place to write
-pub record SaysOnly (answer : ℕ) (w : Change) : Type 0 where
-  pub answer_is : w.answer ≡ answer
-  pub place_is : w.place ≡ 64
+-- the same of a change at a place, under the name that is to stand there; one that writes nothing is one at no place, with any entry
+abbrev pub Changes : Octets → Zone → Outcome → ℕ → Name → Change → Type 0
+Changes n z right place name (Stays a) = (e : Entry) → Decided n z right (number_of (means a)) 64 e
+Changes n z right place name (Writes r) = Decided n z right 0 place (place_of name r)
 
 -- a request that adds a name, decided on a survey: right at every full name and for every zone in form that the survey is of, if that
--- name is written with the records
+-- name is written with the records at the free place
 pub record Adds (request : Name → rules.Zone → Outcome) (s : Survey) (w : Change) : Type 0 where
   pub adds : (z : Zone) (n : Name) → formed z ≡ true → is_full (name_of n) ≡ true → Found z (name_of n) s
-      → Decided (name_of n) z (request n (zone_of z)) w.answer w.place (place_of n w.records)
+      → Changes (name_of n) z (request n (zone_of z)) s.free n w
 
 -- the survey is of a zone in form and of the name n, and e is what stands at the place found (b stands for places past the end)
 pub record Seen (z : Zone) (n : Name) (b : Entry) (s : Survey) (e : Records) : Type 0 where
@@ -89,17 +89,28 @@ pub record Seen (z : Zone) (n : Name) (b : Entry) (s : Survey) (e : Records) : T
   pub found : Found z (name_of n) s
   pub records_is : s.found < 64 → e ≡ records_of (get_or z.entries s.found b)
 
--- any other request, decided on a survey and on what stands at the place found: right wherever these are seen, if the name stays that
--- stands at the place written, which is the place found
+-- any other request, decided on a survey and on what stands at the place found: right wherever these are seen, if the records are written
+-- at the place found and the name stays that stands there
 pub record Decides (request : Name → rules.Zone → Outcome) (s : Survey) (e : Records) (w : Change) : Type 0 where
-  pub place_is : w.place < 64 → w.place ≡ s.found
   pub decides : (z : Zone) (n : Name) (b : Entry) → Seen z n b s e
-      → Decided (name_of n) z (request n (zone_of z)) w.answer w.place (place_of (get_or z.entries w.place b).name w.records)
+      → Changes (name_of n) z (request n (zone_of z)) s.found (get_or z.entries s.found b).name w
 
--- a request on what was visited: right for every zone in form that the visit is of, if the name is full
-pub record Comes (request : rules.Zone → Outcome) (n : Octets) (v : Visit) (w : Effect) : Type 0 where
-  pub refusal_is : w.refusal ≡ 0
-  pub comes : (z : Zone) → formed z ≡ true → is_full n ≡ true → Visited z n v → Decided n z (request (zone_of z)) w.answer w.place w.entry
+-- what a function that decides promises of each call, its own promise being that one
+abbrev pub Follows : (Survey → Records → Change → Type 0) → (Name → rules.Zone → Outcome) → Type 0
+Follows own request = (s : Survey) (e : Records) (w : Change) → own s e w → Decides request s e w
+
+-- ---- on a zone that is lent
+
+-- the survey, unless the request is refused
+pub record Surveys (z : List ℕ) (n : Octets) (family policy : ℕ) (r : Result Survey Refusal) : Type 0 where
+  pub refusal_is : refused r ≡ refusal_in z n family policy
+  pub surveyed : (s : Survey) → r ≡ Ok s → SurveyedIn z n s
+
+abbrev pub refused_by : Refusal → RequestAnswer
+refused_by r = record { refusal = refusal_number r; answer = 0 }
+
+abbrev pub answered_by : Said → RequestAnswer
+answered_by a = record { refusal = 0; answer = number_of (means a) }
 
 -- ---- what stands at a name, without the name
 

@@ -1,18 +1,20 @@
 // The exported calls on a zone that is lent: 23,936 octets in the layout of the C struct, read and
 // written where they lie. Refusals and decisions are those of the calls by value.
-ghost use Rattle.std.specs.Prelude.{◌≡◌, length, take};
-ghost use Rattle.lentzone.specs.Inner.{SurveyedIn};
-ghost use Rattle.update.specs.Rules.{request_a, request_b, remove_address, remove_name};
+ghost use Rattle.std.specs.Prelude.{◌≡◌};
+ghost use Rattle.update.specs.Rules.{Zone as RuledZone, Outcome, request_a, request_b, remove_address, remove_name};
+ghost use Rattle.dname.specs.declared.name.Name.{Name};
 ghost use Rattle.dname.specs.Name.{name_of};
 ghost use Rattle.update.specs.Meaning.{policy_of};
-ghost use Rattle.request.specs.Lent.{refusal_in, RequestPromiseIn};
-ghost use Rattle.request.specs.Inner.{request_of, name_in};
+ghost use Rattle.request.specs.Lent.{refusal_in, PromisedIn, RequestPromiseIn};
+ghost use Rattle.request.specs.Inner.{Follows, Surveys, refused_by, answered_by};
 
-use crate::kind::{REMOVE_ADDRESS, REMOVE_NAME, REQUEST_B};
-use crate::{CheckAnswer, decide};
+use crate::answer::Answer;
+use crate::decide::{Change, Update};
+use crate::refusal::Refusal;
+use crate::{CheckAnswer, refusal, spelled};
 use dname::name::Name;
 use lentzone::{place, survey};
-use zone::entry::{Address, Dhcid};
+use zone::entry::{Address, Dhcid, Records};
 use zone::survey::Survey;
 
 // refusal: the number of document 01's table, 0 where there is none; 17 too where the octets are not
@@ -24,44 +26,57 @@ pub struct RequestAnswer {
     pub answer: u32,
 }
 
-// The survey for a name, the first octets. Other than 23,936 octets are not in order.
-fn survey_for(octets: &[u8], o: &[u8], len: u8) -> Survey
-    requires { length o.now ≡ 255 }
-    ensures { SurveyedIn octets.now (take len o.now) result }
+// The survey for a name, unless a request about it is refused. Other than 23,936 octets are not in
+// order.
+#[tactic(auto, using(crate::proofs::LentLaws::refused_in))]
+fn look(octets: &[u8], name: &Name, family: u8, policy: u8) -> Result<Survey, Refusal>
+    ensures { Surveys octets.now (name_of name.now) family policy result }
 {
-    let n = len as usize;
-    survey::survey_in(octets, &o[..n])
+    let s = survey::survey_in(octets, spelled(name));
+    refusal::check(s, name, family, policy)?;
+    Ok(s)
 }
 
-// A request other than A: the name stays that stands at the place.
-fn send(
-    octets: &mut [u8],
-    kind: u8,
-    o: &[u8],
-    len: u8,
-    d: Dhcid,
-    family: u8,
-    a: Address,
-    policy: u8,
-) -> RequestAnswer
-    requires { (length o.now ≡ 255) × ¬ (kind ≡ 1) }
-    ensures { RequestPromiseIn (request_of kind policy) octets.old (name_in o.now len) d family a policy octets.new result }
+// A request that is refused.
+fn refuse(refusal: Refusal) -> RequestAnswer
+    ensures { result ≡ refused_by refusal }
 {
-    let s = survey_for(octets, o, len);
-    let refused = crate::refusal(s, o, len, family, policy);
-    if refused != 0 {
-        return RequestAnswer {
-            refusal: refused,
-            answer: 0,
-        };
+    RequestAnswer {
+        refusal: u32::from(refusal),
+        answer: 0,
     }
-    let e = place::records_at(octets, s.found);
-    let w = crate::change_of(kind, s, e, d, family, a, policy);
-    let r = w.records;
-    place::write_records(octets, w.place, r);
+}
+
+// A request that is answered.
+fn says(answer: Answer) -> RequestAnswer
+    ensures { result ≡ answered_by answer }
+{
     RequestAnswer {
         refusal: 0,
-        answer: w.answer,
+        answer: u32::from(answer),
+    }
+}
+
+// A request other than A: the name stays that stands at the place found.
+fn send<F: FnOnce(Survey, Records) -> Change>(
+    octets: &mut [u8],
+    name: &Name,
+    family: u8,
+    policy: u8,
+    decide: F,
+) -> RequestAnswer
+    requires { F.IsAlwaysCallable decide }
+    ensures { (rule : Name → RuledZone → Outcome) → Follows (F.post decide) rule → PromisedIn octets.old (name_of name.now) (refusal_in octets.old (name_of name.now) family policy) (rule name.now) octets.new result }
+{
+    match look(octets, name, family, policy) {
+        Err(refusal) => refuse(refusal),
+        Ok(s) => match decide(s, place::records_at(octets, s.found)) {
+            Change::Stays(answer) => says(answer),
+            Change::Writes(r) => {
+                place::write_records(octets, s.found, r);
+                says(Answer::Success)
+            }
+        },
     }
 }
 
@@ -69,9 +84,11 @@ fn send(
 pub fn jespurla_zone_check_lent(octets: &[u8], name: Name, family: u8, policy: u8) -> CheckAnswer
     ensures { result.refusal ≡ refusal_in octets.now (name_of name) family policy }
 {
-    let s = survey_for(octets, &name.octets, name.len);
-    let refused = crate::refusal(s, &name.octets, name.len, family, policy);
-    CheckAnswer { refusal: refused }
+    let refusal = match look(octets, &name, family, policy) {
+        Err(refusal) => u32::from(refusal),
+        Ok(_) => 0,
+    };
+    CheckAnswer { refusal }
 }
 
 // Request A: adds an absent name with the DHCID and the address.
@@ -84,20 +101,20 @@ pub fn jespurla_request_a_lent(
 ) -> RequestAnswer
     ensures { RequestPromiseIn request_a octets.old name dhcid family address 0 octets.new result }
 {
-    let s = survey_for(octets, &name.octets, name.len);
-    let refused = crate::refusal(s, &name.octets, name.len, family, 0);
-    if refused != 0 {
-        return RequestAnswer {
-            refusal: refused,
-            answer: 0,
-        };
-    }
-    let w = decide::add_name(s, dhcid, family, address);
-    let r = w.records;
-    place::write_entry(octets, w.place, name, r);
-    RequestAnswer {
-        refusal: 0,
-        answer: w.answer,
+    let update = Update {
+        dhcid,
+        family,
+        address,
+    };
+    match look(octets, &name, family, 0) {
+        Err(refusal) => refuse(refusal),
+        Ok(s) => match update.add_name(s) {
+            Change::Stays(answer) => says(answer),
+            Change::Writes(r) => {
+                place::write_entry(octets, s.free, name, r);
+                says(Answer::Success)
+            }
+        },
     }
 }
 
@@ -112,16 +129,14 @@ pub fn jespurla_request_b_lent(
 ) -> RequestAnswer
     ensures { RequestPromiseIn (request_b (policy_of policy)) octets.old name dhcid family address policy octets.new result }
 {
-    send(
-        octets,
-        REQUEST_B,
-        &name.octets,
-        name.len,
+    let update = Update {
         dhcid,
         family,
         address,
-        policy,
-    )
+    };
+    send(octets, &name, family, policy, |s, e| {
+        update.add_address(s, e, policy)
+    })
 }
 
 // The first remove request: at a name that the DHCID holds, deletes the address.
@@ -134,16 +149,12 @@ pub fn jespurla_request_remove_address_lent(
 ) -> RequestAnswer
     ensures { RequestPromiseIn remove_address octets.old name dhcid family address 0 octets.new result }
 {
-    send(
-        octets,
-        REMOVE_ADDRESS,
-        &name.octets,
-        name.len,
+    let update = Update {
         dhcid,
         family,
         address,
-        0,
-    )
+    };
+    send(octets, &name, family, 0, |s, e| update.remove_address(s, e))
 }
 
 // The second remove request: deletes a name that the DHCID holds and that has no address.
@@ -156,14 +167,10 @@ pub fn jespurla_request_remove_name_lent(
 ) -> RequestAnswer
     ensures { RequestPromiseIn remove_name octets.old name dhcid family address 0 octets.new result }
 {
-    send(
-        octets,
-        REMOVE_NAME,
-        &name.octets,
-        name.len,
+    let update = Update {
         dhcid,
         family,
         address,
-        0,
-    )
+    };
+    send(octets, &name, family, 0, |s, e| update.remove_name(s, e))
 }

@@ -6,47 +6,25 @@
 pub mod answer;
 mod decide;
 mod host;
-mod kind;
 pub mod lent;
+pub mod refusal;
 
-ghost use Rattle.std.specs.Prelude.{◌≡◌, length, take};
-ghost use Rattle.update.specs.Rules.{request_a, request_b, remove_address, remove_name};
+ghost use Rattle.std.specs.Prelude.{◌≡◌};
+ghost use Rattle.update.specs.Rules.{Zone as RuledZone, Outcome, request_a, request_b, remove_address, remove_name};
+ghost use Rattle.dname.specs.declared.name.Name.{Name};
 ghost use Rattle.dname.specs.Name.{name_of};
-ghost use Rattle.zone.specs.Survey.{records_of};
+ghost use Rattle.zone.specs.Survey.{place_of, records_of};
 ghost use Rattle.update.specs.Meaning.{policy_of, update_of};
 ghost use Rattle.request.specs.Promise.{refusal_of, RequestPromise};
-ghost use Rattle.request.specs.Inner.{request_of, request_with, asks, written as writtenAt, settled, effect_at, Decides, Comes, Refuses, Settles};
+ghost use Rattle.request.specs.Inner.{written as writtenAt, settled, refused_zone, Visits, Settles, Follows};
 
-use crate::decide::Change;
-use crate::kind::{REMOVE_ADDRESS, REMOVE_NAME, REQUEST_A, REQUEST_B};
-use dname::name;
+use crate::answer::Answer;
+use crate::decide::{Change, Update};
+use crate::refusal::Refusal;
 use dname::name::Name;
-use update::numbers;
 use zone::entry::{Address, Dhcid, Entry, Records};
 use zone::survey::{Survey, Visit};
 use zone::{Zone, survey};
-
-// What is sent. kind: one of crate::kind; any other number counts as the second remove request.
-// policy: of request B; 0 where there is none.
-#[derive(Clone, Copy)]
-pub(crate) struct Request {
-    pub kind: u8,
-    pub family: u8,
-    pub policy: u8,
-    pub name: Name,
-    pub dhcid: Dhcid,
-    pub address: Address,
-}
-
-// What a request comes to: the refusal, 0 where there is none, the answer, and one place to write;
-// none where it says 64.
-#[derive(Clone, Copy)]
-pub(crate) struct Effect {
-    pub refusal: u32,
-    pub answer: u32,
-    pub place: usize,
-    pub entry: Entry,
-}
 
 // What the check answers. refusal: the number of document 01's table, 0 where there is none.
 #[repr(C)]
@@ -65,142 +43,36 @@ pub struct Answered {
     pub zone: Zone,
 }
 
-// A request of a kind.
-fn request_of(
-    kind: u8,
-    name: Name,
-    dhcid: Dhcid,
-    family: u8,
-    address: Address,
-    policy: u8,
-) -> Request
-    ensures { result ≡ request_with kind name dhcid family address policy }
+// The octets that count of a name.
+fn spelled(name: &Name) -> &[u8]
+    ensures { result.now ≡ name_of name.now }
 {
-    Request {
-        kind: kind,
-        family: family,
-        policy: policy,
-        name: name,
-        dhcid: dhcid,
-        address: address,
-    }
-}
-
-// The refusal, 0 where there is none. The name is the first octets.
-fn refusal(s: Survey, o: &[u8], len: u8, family: u8, policy: u8) -> u32
-    requires { length o.now ≡ 255 }
-    ensures { Refuses (take len o.now) family policy s result }
-{
-    if !s.inorder {
-        return 17;
-    }
-    if !s.distinct {
-        return 17;
-    }
-    if !numbers::is_listed(family, policy) {
-        return 18;
-    }
-    let n = len as usize;
-    if !name::is_full_name(&o[..n]) {
-        return 11;
-    }
-    0
+    &name.octets[..name.len as usize]
 }
 
 // What stands at a place.
 fn records_of(e: Entry) -> Records
     ensures { result ≡ records_of e }
 {
-    let d = e.dhcid;
-    let v4 = e.v4;
-    let v6 = e.v6;
     Records {
         kind: e.kind,
-        dhcid: d,
-        v4: v4,
-        v6: v6,
+        dhcid: e.dhcid,
+        v4: e.v4,
+        v6: e.v6,
     }
 }
 
-// A change at a name.
-fn effect_at(n: Name, w: Change) -> Effect
-    ensures { result ≡ effect_at n w }
+// What stands at a name as a place.
+fn place_of(name: Name, r: Records) -> Entry
+    ensures { result ≡ place_of name r }
 {
-    let r = w.records;
-    let d = r.dhcid;
-    let v4 = r.v4;
-    let v6 = r.v6;
-    let e = Entry {
+    Entry {
         kind: r.kind,
-        name: n,
-        dhcid: d,
-        v4: v4,
-        v6: v6,
-    };
-    Effect {
-        refusal: 0,
-        answer: w.answer,
-        place: w.place,
-        entry: e,
+        name,
+        dhcid: r.dhcid,
+        v4: r.v4,
+        v6: r.v6,
     }
-}
-
-// What a request other than A comes to. kind: as in a request.
-fn change_of(
-    kind: u8,
-    s: Survey,
-    e: Records,
-    d: Dhcid,
-    family: u8,
-    a: Address,
-    policy: u8,
-) -> Change
-    requires { ¬ (kind ≡ 1) }
-    ensures { Decides (λ n. request_of kind policy (update_of n d family a)) s e result }
-{
-    if kind == REQUEST_B {
-        return decide::add_address(s, e, d, family, a, policy);
-    }
-    if kind == REMOVE_ADDRESS {
-        return decide::remove_address(s, e, d, family, a);
-    }
-    decide::remove_name(s, e, d)
-}
-
-// What a request that is not refused comes to: A writes its own name, any other leaves the one that
-// stands there.
-fn outcome_of(v: Visit, q: Request) -> Effect
-    ensures { Comes (asks q) (name_of q.name) v result }
-{
-    let s = v.survey;
-    if q.kind == REQUEST_A {
-        let w = decide::add_name(s, q.dhcid, q.family, q.address);
-        return effect_at(q.name, w);
-    }
-    let old = v.entry;
-    let e = records_of(old);
-    let w = change_of(q.kind, s, e, q.dhcid, q.family, q.address, q.policy);
-    effect_at(old.name, w)
-}
-
-// What a request on a zone comes to, before a place is written.
-fn effect_of(zone: Zone, q: Request) -> Effect
-    ensures { Settles zone q result }
-{
-    let n = q.name;
-    let v = survey::survey_of(zone, n);
-    let s = v.survey;
-    let refused = refusal(s, &n.octets, n.len, q.family, q.policy);
-    if refused != 0 {
-        let e = v.entry;
-        return Effect {
-            refusal: refused,
-            answer: 0,
-            place: 64,
-            entry: e,
-        };
-    }
-    outcome_of(v, q)
 }
 
 // The zone with one place written, or as it is where there is no such place.
@@ -214,16 +86,62 @@ fn written(zone: Zone, place: usize, entry: Entry) -> Zone
     z
 }
 
-// The zone after a request, with its answer.
-fn settle(zone: Zone, w: Effect) -> Answered
-    ensures { result ≡ settled zone w }
+// The survey of a zone for a name, with what stands there, unless a request about it is refused.
+fn visit(zone: Zone, name: Name, family: u8, policy: u8) -> Result<Visit, Refusal>
+    ensures { Visits zone (name_of name) family policy result }
 {
-    let e = w.entry;
-    let after = written(zone, w.place, e);
+    let v = survey::survey_of(zone, name);
+    refusal::check(v.survey, &name, family, policy)?;
+    Ok(v)
+}
+
+// A request that is refused.
+fn refuse(zone: Zone, refusal: Refusal) -> Answered
+    ensures { result ≡ refused_zone zone refusal }
+{
     Answered {
-        refusal: w.refusal,
-        answer: w.answer,
-        zone: after,
+        refusal: u32::from(refusal),
+        answer: 0,
+        zone,
+    }
+}
+
+// The zone after a change at a place under a name, with the answer.
+#[tactic(auto, unfolding(crate::specs::Promise::number_of))]
+fn settle(zone: Zone, place: usize, name: Name, change: Change) -> Answered
+    ensures { result ≡ settled zone place name change }
+{
+    match change {
+        Change::Stays(answer) => Answered {
+            refusal: 0,
+            answer: u32::from(answer),
+            zone,
+        },
+        Change::Writes(r) => Answered {
+            refusal: 0,
+            answer: u32::from(Answer::Success),
+            zone: written(zone, place, place_of(name, r)),
+        },
+    }
+}
+
+// A request other than A: the name stays that stands at the place found.
+fn send<F: FnOnce(Survey, Records) -> Change>(
+    zone: Zone,
+    name: Name,
+    family: u8,
+    policy: u8,
+    decide: F,
+) -> Answered
+    requires { F.IsAlwaysCallable decide }
+    ensures { (rule : Name → RuledZone → Outcome) → Follows (F.post decide) rule → Settles (rule name) zone (name_of name) family policy result }
+{
+    match visit(zone, name, family, policy) {
+        Err(refusal) => refuse(zone, refusal),
+        Ok(v) => {
+            let change = decide(v.survey, records_of(v.entry));
+            settle(zone, v.survey.found, v.entry.name, change)
+        }
     }
 }
 
@@ -232,10 +150,11 @@ fn settle(zone: Zone, w: Effect) -> Answered
 pub fn jespurla_zone_check(zone: Zone, name: Name, family: u8, policy: u8) -> CheckAnswer
     ensures { result.refusal ≡ refusal_of zone (name_of name) family policy }
 {
-    let v = survey::survey_of(zone, name);
-    let s = v.survey;
-    let refused = refusal(s, &name.octets, name.len, family, policy);
-    CheckAnswer { refusal: refused }
+    let refusal = match visit(zone, name, family, policy) {
+        Err(refusal) => u32::from(refusal),
+        Ok(_) => 0,
+    };
+    CheckAnswer { refusal }
 }
 
 // Request A: adds an absent name with the DHCID and the address.
@@ -248,9 +167,15 @@ pub fn jespurla_request_a(
 ) -> Answered
     ensures { RequestPromise request_a zone name dhcid family address 0 result }
 {
-    let q = request_of(REQUEST_A, name, dhcid, family, address, 0);
-    let w = effect_of(zone, q);
-    settle(zone, w)
+    let update = Update {
+        dhcid,
+        family,
+        address,
+    };
+    match visit(zone, name, family, 0) {
+        Err(refusal) => refuse(zone, refusal),
+        Ok(v) => settle(zone, v.survey.free, name, update.add_name(v.survey)),
+    }
 }
 
 // Request B: at a name that the DHCID holds, deletes by policy, then adds the address.
@@ -264,9 +189,14 @@ pub fn jespurla_request_b(
 ) -> Answered
     ensures { RequestPromise (request_b (policy_of policy)) zone name dhcid family address policy result }
 {
-    let q = request_of(REQUEST_B, name, dhcid, family, address, policy);
-    let w = effect_of(zone, q);
-    settle(zone, w)
+    let update = Update {
+        dhcid,
+        family,
+        address,
+    };
+    send(zone, name, family, policy, |s, e| {
+        update.add_address(s, e, policy)
+    })
 }
 
 // The first remove request: at a name that the DHCID holds, deletes the address.
@@ -279,9 +209,12 @@ pub fn jespurla_request_remove_address(
 ) -> Answered
     ensures { RequestPromise remove_address zone name dhcid family address 0 result }
 {
-    let q = request_of(REMOVE_ADDRESS, name, dhcid, family, address, 0);
-    let w = effect_of(zone, q);
-    settle(zone, w)
+    let update = Update {
+        dhcid,
+        family,
+        address,
+    };
+    send(zone, name, family, 0, |s, e| update.remove_address(s, e))
 }
 
 // The second remove request: deletes a name that the DHCID holds and that has no address.
@@ -294,7 +227,10 @@ pub fn jespurla_request_remove_name(
 ) -> Answered
     ensures { RequestPromise remove_name zone name dhcid family address 0 result }
 {
-    let q = request_of(REMOVE_NAME, name, dhcid, family, address, 0);
-    let w = effect_of(zone, q);
-    settle(zone, w)
+    let update = Update {
+        dhcid,
+        family,
+        address,
+    };
+    send(zone, name, family, 0, |s, e| update.remove_name(s, e))
 }

@@ -7,11 +7,5 @@ ghost use Rattle.update.specs.Meaning.{listed};
 pub fn is_listed(family: u8, policy: u8) -> bool
     ensures { result ≡ listed family policy }
 {
-    if policy > 2 {
-        return false;
-    }
-    if family == 4 {
-        return true;
-    }
-    family == 6
+    matches!(family, 4 | 6) && policy <= 2
 }

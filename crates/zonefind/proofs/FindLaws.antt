@@ -1,13 +1,20 @@
 -- The place that a survey finds is the place with the name's key, and says what stands there. Assumes nothing.
 use mathlib.Core.Path.{◌≡◌, refl, sym, ◌∙◌, ap}
-use mathlib.Core.Bool.{Bool, true, false, cond, ◌&&◌}
+use mathlib.Core.Bool.{Bool, true, false, cond, ◌&&◌, true≢false}
 use mathlib.Core.List.{List, [], ◌∷◌}
 use mathlib.Core.Option.{some}
+use Rattle.std.specs.Prelude.{Option, Result, Ok, Err}
+use Rattle.std.specs.Bool.{then_some}
+use Rattle.std.specs.Result.{IsErr}
+use Rattle.request.specs.declared.refusal.Refusal.{Refusal}
+use Rattle.request.specs.declared.refusal.Refusal.TheVariants.{Form, Number, Name}
+use Rattle.request.specs.Answers.{refusal_number, refused}
+use Rattle.zonefind.specs.Inner.{told, Located}
 use Prim.Native.Nat.{ℕ, zero, suc, ◌≤◌, ◌<◌}
 use native.Mathlib.Omega.{arith}
-use lib.Dec.{eqb, ltb}
+use lib.Dec.{ltb}
 use lib.ListN.{length, get_or}
-use borrow.Author.Tests.{eq-eqb, eqb-true, ltb-true, ltb-false}
+use borrow.Author.Tests.{eq-eqb, ne_eqb, ltb-true, ltb-false}
 use borrow.Table.Steps.{cases}
 use Rattle.octets.specs.Compare.{same_octets}
 use Rattle.octets.specs.Count.{Octets}
@@ -98,13 +105,35 @@ module _ (z : List ℕ) (n : Octets) where
   not_refused e = cases (is_zone z) (λ t. t) (λ t. let k : ◌≡◌ {A = ℕ} 17 0 = sym (rw t) ∙ e in absurd (omega arith))
 
   -- the place of the survey where nothing is refused, and no place where something is
-  pub entry_is_lem : (s : Survey) → SurveyedIn z n s → (place : ℕ) → place ≡ cond (eqb (find_refusal z n) 0) s.found 64 → entry_in (row_at z place) ≡ find_entry z n
+  pub entry_found : (s : Survey) → SurveyedIn z n s → find_refusal z n ≡ 0 → entry_in (row_at z s.found) ≡ find_entry z n
   unfolding find_entry
-  entry_is_lem s v place p = ap (λ (i : ℕ). entry_in (row_at z i)) p ∙ go (eqb (find_refusal z n) 0) refl
+  entry_found s v e = found_entry z n s v (not_refused e) ∙ sym (rw (eq-eqb (find_refusal z n) 0 e))
+
+  pub entry_absent : (s : Survey) → SurveyedIn z n s → find_refusal z n ≡ 0 → 64 ≤ s.found → entry_in (row_at z 64) ≡ find_entry z n
+  entry_absent s v e h = ap entry_in (sym (row_no_place z 64 (omega arith)) ∙ row_no_place z s.found h) ∙ entry_found s v e
+
+  pub entry_refused : (find_refusal z n ≡ 0 → ⊥) → entry_in (row_at z 64) ≡ find_entry z n
+  unfolding find_entry
+  entry_refused e = ap entry_in (sym (row_no_place z 64 (omega arith))) ∙ sym (rw (ne_eqb (find_refusal z n) 0 e))
+
+-- ---- what is located
+
+nonzero : (r : Refusal) → refusal_number r ≡ 0 → ⊥
+nonzero Form e = omega arith
+nonzero Number e = omega arith
+nonzero Name e = omega arith
+
+module _ (z : List ℕ) (n : Octets) where
+  pub located_refused : (r : Result (Option ℕ) Refusal) → IsErr r → refused r ≡ find_refusal z n → Located z n r
+  located_refused (Ok x) h e = absurd (true≢false (sym h))
+  located_refused (Err r) h e = record { refusal_is = e; entry_is = entry_refused z n (λ q. nonzero r (e ∙ q)) }
+
+  pub located : (s : Survey) → SurveyedIn z n s → 0 ≡ find_refusal z n → Located z n (Ok (then_some (ltb s.found 64) s.found))
+  located s v e = record { refusal_is = e; entry_is = go (ltb s.found 64) refl }
     where
-      go : (b : Bool) → eqb (find_refusal z n) 0 ≡ b → entry_in (row_at z (cond b s.found 64)) ≡ cond b (place_with (key n) (zone_in z).entries) free_place
-      go true e = found_entry z n s v (not_refused (eqb-true (find_refusal z n) 0 e))
-      go false e = ap entry_in (sym (row_no_place z 64 (omega arith)))
+      go : (b : Bool) → ltb s.found 64 ≡ b → entry_in (row_at z (told (Ok (then_some b s.found)))) ≡ find_entry z n
+      go true h = entry_found z n s v (sym e)
+      go false h = entry_absent z n s v (sym e) (ltb-false s.found 64 h)
 
 -- ---- the claim
 

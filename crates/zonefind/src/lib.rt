@@ -3,15 +3,16 @@
 
 #![tactic(auto)]
 
-ghost use Rattle.std.specs.Prelude.{◌≡◌, cond, length, take};
+ghost use Rattle.std.specs.Prelude.{◌≡◌, cond};
+ghost use Rattle.request.specs.Answers.{refused};
 ghost use Rattle.zonefind.specs.Find.{find_answer};
 ghost use Rattle.zonefind.specs.Inner.{Located};
 
 use dname::name;
 use dname::name::Name;
-use lentzone::place;
+use lentzone::{place, survey};
+use request::refusal::Refusal;
 use zone::entry::Entry;
-use zone::survey;
 
 // refusal: the number of document 01's table, 0 where there is none. entry: the place of the name,
 // octet for octet; zeros where the name is absent, and beside a refusal.
@@ -22,51 +23,44 @@ pub struct FindAnswer {
     pub entry: Entry,
 }
 
-// A refusal, or 0, and the place of the name, 64 where there is none.
-#[derive(Clone, Copy)]
-struct Location {
-    refusal: u32,
-    place: usize,
-}
+// How many places there are: none has this number, so zeros stand there.
+const PLACES: usize = 64;
 
 // The refusals in their order: the zone's form, then the name.
-fn refusal(form: bool, full: bool) -> u32
-    ensures { result ≡ cond form (cond full 0 11) 17 }
+fn check(form: bool, full: bool) -> Result<(), Refusal>
+    ensures { refused result ≡ cond form (cond full 0 11) 17 }
 {
     if !form {
-        return 17;
+        return Err(Refusal::Form);
     }
     if !full {
-        return 11;
+        return Err(Refusal::Name);
     }
-    0
+    Ok(())
 }
 
-// Where the name stands, the first octets.
-fn locate(octets: &[u8], o: &[u8], len: u8) -> Location
-    requires { length o.now ≡ 255 }
-    ensures { Located octets.now (take len o.now) result }
+// Where the name stands, if it does.
+fn locate(octets: &[u8], name: &[u8]) -> Result<Option<usize>, Refusal>
+    ensures { Located octets.now name.now result }
 {
-    let n = len as usize;
-    let s = lentzone::survey::survey_in(octets, &o[..n]);
-    let form = survey::both(s.inorder, s.distinct);
-    let full = name::is_full_name(&o[..n]);
-    let refused = refusal(form, full);
-    let place = survey::choose(refused == 0, s.found, 64);
-    Location {
-        refusal: refused,
-        place: place,
-    }
+    let s = survey::survey_in(octets, name);
+    let form = s.inorder && s.distinct;
+    check(form, name::is_full_name(name))?;
+    Ok((s.found < PLACES).then_some(s.found))
 }
 
 // What stands at a name.
 pub fn jespurla_zone_find(octets: &[u8], name: Name) -> FindAnswer
     ensures { result ≡ find_answer octets.now name }
 {
-    let l = locate(octets, &name.octets, name.len);
-    let e = place::entry_at(octets, l.place);
-    FindAnswer {
-        refusal: l.refusal,
-        entry: e,
+    match locate(octets, &name.octets[..name.len as usize]) {
+        Err(refusal) => FindAnswer {
+            refusal: u32::from(refusal),
+            entry: place::entry_at(octets, PLACES),
+        },
+        Ok(place) => FindAnswer {
+            refusal: 0,
+            entry: place::entry_at(octets, place.unwrap_or(PLACES)),
+        },
     }
 }

@@ -1,11 +1,11 @@
-use Rattle.std.proofs.Common.{refl}
+use Rattle.std.proofs.Common.{refl, sym}
 use Rattle.update.specs.Rules.{request_a}
-use Rattle.request.specs.Inner.{request_of}
-use Rattle.request.proofs.PromiseLaws.{request_kept}
+use Rattle.update.specs.Meaning.{update_of}
+use Rattle.request.proofs.PromiseLaws.{comes_adds}
 use Rattle.request.proofs.jespurla_request_a.Goals as goal
 
-pub returns : goal.returns
-unfolding request_of
-returns c =
+pub returns-in-Ok : goal.returns-in-Ok
+returns-in-Ok c =
     let a = c.args in
-    request_kept 1 request_a a.zone a.name a.dhcid a.family a.address 0 _ _ _ refl c.request_of-q.ensures c.effect_of-w.ensures c.settle.ensures
+    let v = c.in-Ok.ensures in
+    rw c.settle.ensures (comes_adds a.zone a.name a.family 0 c.in-Ok.v (sym v.refusal_is) (v.visited _ refl) (λ n. request_a (update_of n a.dhcid a.family a.address)) _ c.add_name.ensures)

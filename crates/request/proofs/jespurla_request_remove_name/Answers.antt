@@ -1,11 +1,9 @@
-use Rattle.std.proofs.Common.{refl}
+use Rattle.std.proofs.Common.{rules}
 use Rattle.update.specs.Rules.{remove_name}
-use Rattle.request.specs.Inner.{request_of}
-use Rattle.request.proofs.PromiseLaws.{request_kept}
+use Rattle.update.specs.Meaning.{update_of}
 use Rattle.request.proofs.jespurla_request_remove_name.Goals as goal
 
 pub returns : goal.returns
-unfolding request_of
 returns c =
     let a = c.args in
-    request_kept 4 remove_name a.zone a.name a.dhcid a.family a.address 0 _ _ _ refl c.request_of-q.ensures c.effect_of-w.ensures c.settle.ensures
+    c.send.ensures (λ n. remove_name (update_of n a.dhcid a.family a.address)) (λ s e w p. search rules)

@@ -1,20 +1,23 @@
-use Rattle.std.proofs.Common.{◌≡◌, ◌∙◌, ap, cond, take, ℕ}
-use Rattle.std.proofs.Math.Dec.{eqb}
+use Rattle.std.proofs.Common.{◌≡◌, ◌∙◌, ◌&&◌, arith}
+use Rattle.std.proofs.lemmas.Grind.{common_steps}
 use Rattle.lentzone.proofs.FormLaws.{survey_zone}
+use Rattle.request.specs.Answers.{refused}
 use Rattle.zonefind.specs.Find.{find_refusal}
-use Rattle.zonefind.proofs.FindLaws.{refusal_is_lem, entry_is_lem}
+use Rattle.zonefind.proofs.FindLaws.{refusal_is_lem, located, located_refused}
 use Rattle.zonefind.proofs.locate.Goals as goal
+
+pub returns-in_err-check : goal.returns-in_err-check
+returns-in_err-check c =
+    let s = c.survey_in-s in
+    let f : c.if-s.form ≡ (s.result.inorder && s.result.distinct) = grind (arith, common_steps) in
+    let e : refused c.check.result ≡ find_refusal c.args.octets.now c.args.name.now = c.check.ensures ∙ refusal_is_lem _ _ _ _ (f ∙ survey_zone _ _ _ s.ensures) c.is_full_name.ensures in
+    let r : refused c.from_residual.result ≡ refused c.check.result = grind (arith, common_steps) in
+    located_refused _ _ _ c.from_residual.ensures.0 (r ∙ e)
 
 pub returns : goal.returns
 returns c =
-    let s = c.args in
-    let z = s.octets.now in
-    let n = take s.len s.o.now in
-    let v = c.survey_in-s in
-    let e : c.refusal-refused.result ≡ find_refusal z n =
-    c.refusal-refused.ensures
-    ∙ refusal_is_lem z n _ _ (c.both-form.ensures ∙ survey_zone z n v.result v.ensures) c.is_full_name-full.ensures in
-    record {
-      refusal_is = e;
-      entry_is = entry_is_lem z n v.result v.ensures _ (c.choose-place.ensures ∙ ap (λ (k : ℕ). cond (eqb k 0) v.result.found 64) e);
-    }
+    let s = c.survey_in-s in
+    let f : c.if-s.form ≡ (s.result.inorder && s.result.distinct) = grind (arith, common_steps) in
+    let e : refused c.check.result ≡ find_refusal c.args.octets.now c.args.name.now = c.check.ensures ∙ refusal_is_lem _ _ _ _ (f ∙ survey_zone _ _ _ s.ensures) c.is_full_name.ensures in
+    let r : 0 ≡ refused c.check.result = grind (arith, common_steps) in
+    rw c.then_some.ensures (located _ _ s.result s.ensures (r ∙ e))

@@ -1,19 +1,17 @@
-use Rattle.dname.specs.Name.{name_of}
-use Rattle.update.specs.Meaning.{update_of}
-use Rattle.request.specs.Inner.{request_of, name_in}
-use Rattle.request.proofs.LentLaws.{refused_in, promised_refused, promised_decides}
+use Rattle.std.proofs.Common.{refl, sym}
+use Rattle.request.specs.Promise.{number_of}
+use Rattle.request.proofs.LentLaws.{decides_stays, promised_decides}
 use Rattle.request.proofs.lent.send.Goals as goal
 
-pub returns-then-refused-ne0 : goal.returns-then-refused-ne0
-returns-then-refused-ne0 c =
-    let s = c.args in
-    let n = name_in s.o.now s.len in
-    promised_refused s.octets.now (name_of n) s.family s.policy (request_of s.kind s.policy (update_of n s.d s.family s.a)) _
-    (refused_in s.octets.now (name_of n) s.family s.policy _ _ c.survey_for-s.ensures c.refusal-refused.ensures) c.if-refused-ne0.true
+pub returns-in-Stays : goal.returns-in-Stays
+returns-in-Stays g c =
+    let a = c.args in
+    let v = c.in-Ok.ensures in
+    λ rule f. rw c.says.ensures (decides_stays a.octets.now a.name.now a.family a.policy c.in-Ok.s (v.surveyed _ refl) (sym v.refusal_is) rule _ c.records_at.ensures c.in-Stays.answer (f _ _ _ c.in-Stays.ensures))
 
-pub returns : goal.returns
-returns c =
-    let s = c.args in
-    let n = name_in s.o.now s.len in
-    promised_decides s.octets.now n s.family s.policy _ _ c.survey_for-s.ensures c.refusal-refused.ensures c.if-refused-ne0.false
-    (λ m. request_of s.kind s.policy (update_of m s.d s.family s.a)) c.change_of-w.result _ _ c.records_at-e.ensures c.change_of-w.ensures c.write_records.ensures
+pub returns-in-Writes : goal.returns-in-Writes
+unfolding number_of
+returns-in-Writes g c =
+    let a = c.args in
+    let v = c.in-Ok.ensures in
+    λ rule f. rw c.says-in-Writes.ensures (promised_decides a.octets.now a.name.now a.family a.policy c.in-Ok.s (v.surveyed _ refl) (sym v.refusal_is) rule _ c.records_at.ensures _ _ (f _ _ _ c.in-Writes.ensures) c.write_records.ensures)

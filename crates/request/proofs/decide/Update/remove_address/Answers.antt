@@ -1,26 +1,25 @@
 use Rattle.std.proofs.Common.{arith, sym, ◌∙◌}
 use Rattle.request.proofs.DecideLaws.{remove_absent, remove_other, remove_none, remove_own}
-use Rattle.request.proofs.decide.remove_address.Goals as goal
+use Rattle.request.proofs.decide.Update.remove_address.Goals as goal
 
 pub returns-then-s-ge64 : goal.returns-then-s-ge64
 returns-then-s-ge64 c =
-    let s = c.args in
     let p = c.if-s-ge64.true in
-    remove_absent s.s s.d s.family s.a s.e _ (λ h. omega arith) c.no_change.ensures
+    remove_absent c.args.s c.args.self.now c.args.e (λ h. omega arith)
 
 pub returns-then-not-is_held : goal.returns-then-not-is_held
 returns-then-not-is_held c =
     let s = c.args in
-    remove_other s.s s.d s.family s.a s.e c.if-s-ge64.false _ (sym c.is_held.ensures ∙ c.if-not-is_held.true) c.no_change-then-not-is_held.ensures
+    remove_other s.s s.self.now s.e c.if-s-ge64.false (sym c.is_held.ensures ∙ c.if-not-is_held.true)
 
 pub returns-then-not-has_address : goal.returns-then-not-has_address
 returns-then-not-has_address c =
     let s = c.args in
     let o = sym c.is_held.ensures ∙ c.if-not-is_held.false in
-    remove_none s.s s.d s.family s.a s.e c.if-s-ge64.false o _ c.has_address.ensures _ c.if-not-has_address.true c.no_change-then-not-has_address.ensures
+    remove_none s.s s.self.now s.e c.if-s-ge64.false o _ c.has_address.ensures c.if-not-has_address.true
 
 pub returns : goal.returns
 returns c =
     let s = c.args in
     let o = sym c.is_held.ensures ∙ c.if-not-is_held.false in
-    remove_own s.s s.d s.family s.a s.e c.if-s-ge64.false o _ c.has_address.ensures _ c.if-not-has_address.false c.part-f.ensures
+    remove_own s.s s.self.now s.e c.if-s-ge64.false o _ c.has_address.ensures _ c.if-not-has_address.false c.part.ensures

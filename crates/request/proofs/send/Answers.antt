@@ -1,0 +1,9 @@
+use Rattle.std.proofs.Common.{refl, sym}
+use Rattle.request.proofs.PromiseLaws.{comes_decides}
+use Rattle.request.proofs.send.Goals as goal
+
+pub returns-in-Ok : goal.returns-in-Ok
+returns-in-Ok g c =
+    let a = c.args in
+    let v = c.in-Ok.ensures in
+    λ rule f. rw c.settle.ensures (comes_decides a.zone a.name a.family a.policy c.in-Ok.v (sym v.refusal_is) (v.visited _ refl) rule _ _ c.records_of.ensures (f _ _ _ c.decide-change.ensures))
