@@ -16,8 +16,8 @@ use Rattle.octets.proofs.NumberLaws.{length_big_endian, number_big_endian}
 use Rattle.leasepacket.specs.Packet as read
 use Rattle.leasepacket.specs.Packet.{part, option_area, is_packet}
 use Rattle.leasepacket.specs.Layout.{fixed_fields, option}
-use Rattle.leasepacket.specs.Options.{Opt, followed, options, values, values_of, values_in, has_options}
-use Rattle.leasepacket.specs.Requested.{list_by, request_list}
+use Rattle.leasepacket.specs.Options.{Opt, followed, options, values, values_of, values_in, has_options, only_of}
+use Rattle.leasepacket.specs.Requested.{request_list}
 use Rattle.leasepacket.specs.Query.{Asked, refused, any_set, has_hardware_key, keys, key_of, has_bad_length, refusals, first_of, asking}
 use Rattle.leasepacket.proofs.LayoutLaws.{Sized, read_op, read_ciaddr, read_giaddr, read_chaddr, read_area, read_packet, read_option}
 use Rattle.deskquery.specs.Query.{packet}
@@ -132,7 +132,7 @@ module _ (xid giaddr ciaddr htype hlen : ℕ) (chaddr id : List ℕ) where
       -- a list can only be among them
       pub no_list : values 55 os ≡ [] → request_list query ≡ none
       unfolding values
-      no_list l = ap list_by (ap (values_of 55) (options_are os o) ∙ l)
+      no_list l = ap only_of (ap (values_of 55) (options_are os o) ∙ l)
 
       -- with a giaddr, one message type and one key of a length that it may have, every check passes
       pub takes : Address giaddr → (giaddr ≡ 0 → ⊥) → length id ≤ 257 → values 53 os ≡ [] → length (values 61 os) ≤ 1 → values 55 os ≡ [] → keys query ≡ 1 → has_bad_length query ≡ false → asking query ≡ key_of query

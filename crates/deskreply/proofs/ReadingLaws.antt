@@ -1,9 +1,13 @@
 -- The laws of what a reply tells and of what the call answers. Assumes nothing.
 use Prim.Native.Nat.{ℕ, ◌%◌, ◌≤◌}
 use mathlib.Core.Path.{◌≡◌, refl, sym, ap, ◌∙◌}
-use mathlib.Core.Bool.{Bool, true, false, ◌&&◌}
+use mathlib.Core.Bool.{Bool, true, false, cond, ◌&&◌}
 use mathlib.Core.List.{List, [], ◌∷◌}
-use mathlib.Core.Option.{none}
+use Rattle.std.specs.Prelude as std
+use Rattle.std.specs.Prelude.{is_some, Some, None}
+use Rattle.std.specs.Option.{unwrap_or}
+use Rattle.clock.specs.declared.Span.{Span}
+use Rattle.clock.specs.Clock.{span}
 use lib.Dec.{leb, eqb}
 use lib.ListN.{length}
 use borrow.Author.Tests.{eq-eqb, ne_eqb, leb-true}
@@ -14,7 +18,7 @@ use Rattle.leasepacket.specs.ReplyOptions.{Lengths, in_every, in_active, in_kind
 use Rattle.leasepacket.proofs.QueryLaws.{packet_long}
 use Rattle.deskreply.specs.Reply.{keeps, keeps_all, kind_of, is_kind, is_reply}
 use Rattle.deskreply.specs.Reading.{time_by, addresses_by, tells, refusal, told, reading}
-use Rattle.deskreply.specs.Promise.{answered}
+use Rattle.deskreply.specs.Promise.{is_there, time_or_zero, answered}
 use Rattle.deskreply.specs.Stages.{has_fields, Short, time_of, addresses_of, filled}
 use Rattle.deskreply.proofs.ReplyLaws.{keeps_both}
 
@@ -63,13 +67,22 @@ module _ (p : List ℕ) (r : is_reply p ≡ true) where
       let active : keeps_all (in_kind 13) p ≡ true = ap (λ (n : ℕ). keeps_all (in_kind n) p) (sym k) ∙ keeps_rules in
       ruled_short (values_in 92 p) (last_rule (keeps_all in_every p) p (sym (keeps_both in_every in_active p) ∙ active))
 
+-- ---- a time, as it is told
+there_is : (t : std.Option Span) → cond (is_some t) 1 0 ≡ is_there (time_of t)
+there_is None = refl
+there_is (Some s) = refl
+
+time_is : (t : std.Option Span) → unwrap_or t (span 0) ≡ time_or_zero (time_of t)
+time_is None = refl
+time_is (Some s) = refl
+
 -- ---- what it tells, by its kind
 module _ (p : List ℕ) where
-  pub tells_active : kind_of p ≡ 13 → filled p (kind_of p) (time_of (time_by (values_in 51 p))) (time_of (time_by (values_in 91 p))) (addresses_of (addresses_by (values_in 92 p))) ≡ answered (told (tells p))
+  pub tells_active : (left since : std.Option Span) → time_of left ≡ time_by (values_in 51 p) → time_of since ≡ time_by (values_in 91 p) → kind_of p ≡ 13 → filled p (kind_of p) left since (addresses_of (addresses_by (values_in 92 p))) ≡ answered (told (tells p))
   unfolding tells
-  tells_active k = simp (eq-eqb _ _ k) refl
+  tells_active left since l s k = rw (there_is left, time_is left, there_is since, time_is since, l, s) (simp (eq-eqb _ _ k) refl)
 
-  pub tells_other : (kind_of p ≡ 13 → ⊥) → filled p (kind_of p) (time_of none) (time_of none) (addresses_of []) ≡ answered (told (tells p))
+  pub tells_other : (kind_of p ≡ 13 → ⊥) → filled p (kind_of p) None None (addresses_of []) ≡ answered (told (tells p))
   unfolding tells
   tells_other k = simp (ne_eqb _ _ k) refl
 

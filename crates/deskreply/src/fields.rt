@@ -1,6 +1,5 @@
 // The fields of a reply.
 ghost use Rattle.std.specs.Prelude.{◌≡◌, [], length, replicate, ◌/◌, ◌≤◌};
-ghost use Rattle.std.proofs.Math.Option.{none};
 ghost use Rattle.octets.specs.Write.{laid};
 ghost use Rattle.leasepacket.specs.Packet.{chaddr};
 ghost use Rattle.leasepacket.specs.Options.{values_in};
@@ -8,40 +7,22 @@ ghost use Rattle.deskreply.specs.Reading.{numbers, time_by, addresses_by};
 ghost use Rattle.deskreply.specs.Stages.{time_of, addresses_of, Short};
 
 use clock::Span;
-use leasepacket::options::Occurrence;
 use leasepacket::{layout, options};
-use octets::{number, write};
-
-// A time: 1 and a span where it is there, else 0 and 0.
-#[derive(Drop)]
-pub struct Time {
-    pub there: u32,
-    pub span: Span,
-}
+use octets::number;
 
 // A list of addresses: how many, and zeros behind them.
-#[derive(Drop)]
+#[derive(Clone, Copy, PartialEq, Eq, Debug)]
 pub struct Addresses {
     pub count: u32,
     pub list: [u32; 63],
 }
 
 // The time in an option.
-pub(crate) fn time_in(p: &[u8], code: u8) -> Time
-    ensures { result ≡ time_of (time_by (values_in code p.now)) }
+pub(crate) fn time_in(p: &[u8], code: u8) -> Option<Span>
+    ensures { time_of result ≡ time_by (values_in code p.now) }
 {
-    match options::find(p, code) {
-        Occurrence::Faulty => no_time(),
-        Occurrence::Absent => no_time(),
-        Occurrence::Once(at, n) => {
-            let end = at + n;
-            Time {
-                there: 1,
-                span: Span(number::u32_at(&p[at..end], 0)),
-            }
-        }
-        Occurrence::Repeated => no_time(),
-    }
+    let value = options::only_value(p, code)?;
+    Some(Span(number::u32_at(value, 0)))
 }
 
 // The numbers of four octets each that a value holds.
@@ -50,11 +31,8 @@ fn numbers_in(v: &[u8]) -> [u32; 63]
     ensures { result ≡ laid (numbers (length v.now / 4) v.now) (replicate 63 0) }
 {
     let mut list = [0; 63];
-    let n = v.len() / 4;
-    let mut i = 0;
-    while i < n {
+    for i in 0..v.len() / 4 {
         list[i] = number::u32_at(v, 4 * i);
-        i += 1;
     }
     list
 }
@@ -64,27 +42,12 @@ pub(crate) fn addresses_in(p: &[u8]) -> Addresses
     requires { Short (values_in 92 p.now) }
     ensures { result ≡ addresses_of (addresses_by (values_in 92 p.now)) }
 {
-    match options::find(p, layout::ASSOCIATED_IP) {
-        Occurrence::Faulty => no_addresses(),
-        Occurrence::Absent => no_addresses(),
-        Occurrence::Once(at, n) => {
-            let end = at + n;
-            Addresses {
-                count: (n / 4) as u32,
-                list: numbers_in(&p[at..end]),
-            }
-        }
-        Occurrence::Repeated => no_addresses(),
-    }
-}
-
-// No time.
-pub(crate) fn no_time() -> Time
-    ensures { result ≡ time_of none }
-{
-    Time {
-        there: 0,
-        span: Span(0),
+    match options::only_value(p, layout::ASSOCIATED_IP) {
+        Some(v) => Addresses {
+            count: (v.len() / 4) as u32,
+            list: numbers_in(v),
+        },
+        None => no_addresses(),
     }
 }
 
@@ -105,6 +68,6 @@ pub(crate) fn hardware_of(p: &[u8]) -> [u8; 16]
     ensures { result ≡ chaddr p.now }
 {
     let mut octets = [0; 16];
-    let _end = write::put_octets(&mut octets, 0, &p[layout::CHADDR..layout::SNAME]);
+    octets.copy_from_slice(&p[layout::CHADDR..layout::SNAME]);
     octets
 }

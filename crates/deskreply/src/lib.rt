@@ -37,15 +37,22 @@ pub struct LeaseReading {
     pub hlen: u8,
 }
 
+// Why a packet is not read as the reply to a query.
+#[derive(Clone, Copy, PartialEq, Eq, Debug)]
+pub enum Refusal {
+    NotReply = 20,
+    OtherXid = 21,
+}
+
 // Reads a reply to the query that had an xid.
 pub fn jespurla_lease_reply_read(xid: u32, reply: &[u8]) -> LeaseReading
     ensures { ReadPromise xid reply.now result }
 {
     if !form::is_reply(reply) {
-        return read::refused(20);
+        return read::refused(Refusal::NotReply);
     }
     if number::u32_at(reply, layout::XID) != xid {
-        return read::refused(21);
+        return read::refused(Refusal::OtherXid);
     }
     read::tell(reply)
 }

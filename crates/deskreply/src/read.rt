@@ -3,20 +3,20 @@ ghost use Rattle.std.specs.Prelude.{◌≡◌, true, length, ◌≤◌};
 ghost use Rattle.deskreply.specs.Reply.{is_reply};
 ghost use Rattle.deskreply.specs.Reading.{refusal, told, tells};
 ghost use Rattle.deskreply.specs.Promise.{answered};
-ghost use Rattle.deskreply.specs.Stages.{filled};
+ghost use Rattle.deskreply.specs.Stages.{number_of, filled};
 
-use crate::fields::{Addresses, Time};
-use crate::{LeaseReading, fields, form};
+use crate::fields::Addresses;
+use crate::{LeaseReading, Refusal, fields, form};
 use clock::Span;
 use leasepacket::layout;
 use octets::number;
 
 // A refusal.
-pub(crate) fn refused(n: u32) -> LeaseReading
-    ensures { result ≡ answered (refusal n) }
+pub(crate) fn refused(why: Refusal) -> LeaseReading
+    ensures { result ≡ answered (refusal (number_of why)) }
 {
     LeaseReading {
-        refusal: n,
+        refusal: why as u32,
         kind: 0,
         address: 0,
         has_left: 0,
@@ -32,25 +32,27 @@ pub(crate) fn refused(n: u32) -> LeaseReading
 }
 
 // The fixed fields, with a kind, times and addresses.
-fn fill(p: &[u8], kind: u8, left: Time, since: Time, listed: Addresses) -> LeaseReading
+fn fill(
+    p: &[u8],
+    kind: u8,
+    left: Option<Span>,
+    since: Option<Span>,
+    listed: &Addresses,
+) -> LeaseReading
     requires { 240 ≤ length p.now }
-    ensures { result ≡ filled p.now kind left since listed }
+    ensures { result ≡ filled p.now kind left since listed.now }
 {
-    let chaddr = fields::hardware_of(p);
-    let seconds_left = left.span;
-    let seconds_since = since.span;
-    let addresses = listed.list;
     LeaseReading {
         refusal: 0,
         kind: kind as u32,
         address: number::u32_at(p, layout::CIADDR),
-        has_left: left.there,
-        left: seconds_left,
-        has_since: since.there,
-        since: seconds_since,
+        has_left: u32::from(left.is_some()),
+        left: left.unwrap_or(Span(0)),
+        has_since: u32::from(since.is_some()),
+        since: since.unwrap_or(Span(0)),
         count: listed.count,
-        addresses,
-        chaddr,
+        addresses: listed.list,
+        chaddr: fields::hardware_of(p),
         htype: p[layout::HTYPE],
         hlen: p[layout::HLEN],
     }
@@ -66,13 +68,8 @@ pub(crate) fn tell(p: &[u8]) -> LeaseReading
         let left = fields::time_in(p, layout::LEASE_TIME);
         let since = fields::time_in(p, layout::LAST_TRANSACTION_TIME);
         let listed = fields::addresses_in(p);
-        return fill(p, kind, left, since, listed);
+        return fill(p, kind, left, since, &listed);
     }
-    fill(
-        p,
-        kind,
-        fields::no_time(),
-        fields::no_time(),
-        fields::no_addresses(),
-    )
+    let listed = fields::no_addresses();
+    fill(p, kind, None, None, &listed)
 }

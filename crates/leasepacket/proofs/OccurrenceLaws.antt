@@ -3,6 +3,7 @@ use Prim.Native.Nat.{ℕ, zero, suc, ◌+◌, ◌-◌, ◌≤◌, ◌<◌}
 use mathlib.Core.Path.{◌≡◌, refl, sym, ap, ◌∙◌, subst}
 use mathlib.Core.List.{List, [], ◌∷◌, head_d}
 use mathlib.Core.Option.{Option, none, some}
+use Rattle.std.proofs.Math.Option.{some-ne-none}
 use mathlib.Core.Bool.{true, false, ◌&&◌, and-false}
 use native.Mathlib.Omega.{arith}
 use borrow.Table.Steps.{cases}
@@ -10,15 +11,15 @@ use borrow.Author.Tests.{leb-true, leb-false, lt-leb}
 use lib.Dec.{eqb, leb}
 use lib.ListN.{length, get_or, take, drop, length-drop, length-take, drop_of_length-le}
 use lib.Seq.{drop-drop}
-use Rattle.leasepacket.specs.declared.options.Occurrence.{Occurrence}
-use Rattle.leasepacket.specs.declared.options.Occurrence.TheVariants.{Faulty, Absent, Once, Repeated}
+use Rattle.std.specs.Prelude as std
+use Rattle.std.specs.Prelude.{Some, None, Ok, Err}
 use Rattle.leasepacket.specs.declared.options.Place.{Place}
-use Rattle.leasepacket.specs.declared.options.Place.TheVariants as place
-use Rattle.leasepacket.specs.declared.options.Walk.TheVariants as walk
+use Rattle.leasepacket.specs.declared.options.Fault.{Fault}
+use Rattle.leasepacket.specs.declared.options.Fault.TheVariants.{Broken, Repeated}
 use Rattle.leasepacket.specs.Packet.{part}
-use Rattle.leasepacket.specs.Options.{Opt, opt, followed, options, values, values_of, values_in, has_options}
-use Rattle.leasepacket.specs.Occurrence.{before, place_of, counted, occurrence_in, occurrence}
-use Rattle.leasepacket.specs.Places.{ReadAs, Tells}
+use Rattle.leasepacket.specs.Options.{Opt, opt, followed, options, values, values_of, values_in, only_of, has_options}
+use Rattle.leasepacket.specs.Occurrence.{before, place_of, Occurrence, counted, occurrence_in, occurrence}
+use Rattle.leasepacket.specs.Places.{value, ReadAs, Stands, Tells}
 
 -- ---- the place of a value is where it stands, and the value lies inside the octets
 take_own : (n : ℕ) (l : List ℕ) → take (length (take n l)) l ≡ take n l
@@ -97,10 +98,10 @@ module _ (p : List ℕ) where
         (ap (take (length v)) (sym (drop-drop (before code 0 (drop 240 p)) 240 p)) ∙ value_at code 0 (drop 240 p) v vs e, omega (arith, l, d, h))
 
     abbrev pub Says : Occurrence → Type 0
-    Says Faulty = options 0 (drop 240 p) ≡ none
-    Says Absent = Readable p × (values_in code p ≡ [])
-    Says (Once at n) = Readable p × (values_in code p ≡ part p at n ∷ []) × (at + n ≤ length p) × (at ≡ place_of code p)
-    Says Repeated = Readable p × (1 < length (values_in code p))
+    Says (Err Broken) = options 0 (drop 240 p) ≡ none
+    Says (Err Repeated) = Readable p × (1 < length (values_in code p))
+    Says (Ok None) = Readable p × (values_in code p ≡ [])
+    Says (Ok (Some q)) = Readable p × (values_in code p ≡ part p q.at q.len ∷ []) × (q.at + q.len ≤ length p) × (q.at ≡ place_of code p)
 
     by_values : Readable p → (vs : List (List ℕ)) → values_in code p ≡ vs → Says (counted (place_of code p) vs)
     by_values r [] e = (r, e)
@@ -115,59 +116,77 @@ module _ (p : List ℕ) where
     unfolding occurrence
     says o e = subst Says (sym e) (by_options (options 0 (drop 240 p)) refl)
 
-    pub read_absent : Says Absent → ReadAs code p place.Absent
-    read_absent s = record { are = s.1; inside = tt }
+    readable : (q : std.Option Place) → Says (Ok q) → Readable p
+    readable None s = s.0
+    readable (Some q) s = s.0
 
-    pub read_once : (at n : ℕ) → Says (Once at n) → ReadAs code p (place.At at n)
-    read_once at n s = record { are = s.1; inside = s.2 }
+    pub read_as : (q : std.Option Place) → Says (Ok q) → ReadAs code p q
+    read_as None s = record { are = s.1; inside = tt }
+    read_as (Some q) s = record { are = s.1; inside = s.2 }
+
+    -- the values of an option whose place is known, and of one with a fault: of options that can't be read there are none
+    pub values_at : (q : std.Option Place) → Ok q ≡ occurrence code p → values_in code p ≡ value p q
+    values_at q e = (read_as q (says (Ok q) e)).are
+
+    pub place_inside : (q : Place) → Ok (Some q) ≡ occurrence code p → q.at + q.len ≤ length p
+    place_inside q e = (says (Ok (Some q)) e).2
+
+    pub values_broken : Err Broken ≡ occurrence code p → values_in code p ≡ []
+    values_broken e = rw (says (Err Broken) e)
+
+    pub values_repeated : Err Repeated ≡ occurrence code p → (v : List ℕ) × (w : List ℕ) × (vs : List (List ℕ)) × (values_in code p ≡ v ∷ w ∷ vs)
+    values_repeated e = go (values_in code p) (says (Err Repeated) e).1
+      where
+        go : (us : List (List ℕ)) → 1 < length us → (v : List ℕ) × (w : List ℕ) × (vs : List (List ℕ)) × (us ≡ v ∷ w ∷ vs)
+        go [] h = absurd (omega arith)
+        go (v ∷ []) h = absurd (omega arith)
+        go (v ∷ w ∷ vs) h = (v, w, vs, refl)
+
+    pub not_only : (f : Fault) → Err f ≡ occurrence code p → only_of (values_in code p) ≡ none
+    not_only Broken e = ap only_of (values_broken e)
+    not_only Repeated e = ap only_of (values_repeated e).3
 
   -- ---- the packet as a whole: its options can be read, with 53 and 61 at most once each
-  pub faulty : options 0 (drop 240 p) ≡ none → has_options p ≡ false
-  unfolding has_options
-  faulty e = rw e
-
   has : Readable p → has_options p ≡ (leb (length (values_in 53 p)) 1 && leb (length (values_in 61 p)) 1)
   unfolding has_options
   has r = rw r.1
 
-  pub kind_repeated : Says 53 Repeated → has_options p ≡ false
-  kind_repeated s = has s.0 ∙ rw (lt-leb (length (values_in 53 p)) 1 s.1)
+  broken : options 0 (drop 240 p) ≡ none → has_options p ≡ false
+  unfolding has_options
+  broken e = rw e
 
-  pub id_repeated : Says 61 Repeated → has_options p ≡ false
-  id_repeated s = has s.0 ∙ rw (lt-leb (length (values_in 61 p)) 1 s.1) (and-false (leb (length (values_in 53 p)) 1))
+  pub kind_fault : (f : Fault) → Err f ≡ occurrence 53 p → has_options p ≡ false
+  kind_fault Broken e = broken (says 53 (Err Broken) e)
+  kind_fault Repeated e = let s = says 53 (Err Repeated) e in has s.0 ∙ rw (lt-leb (length (values_in 53 p)) 1 s.1)
 
-  at_most_one : (code : ℕ) (q : Place) → ReadAs code p q → leb (length (values_in code p)) 1 ≡ true
-  at_most_one code place.Absent r = rw r.are
-  at_most_one code (place.At a n) r = rw r.are
+  pub id_fault : (f : Fault) → Err f ≡ occurrence 61 p → has_options p ≡ false
+  id_fault Broken e = broken (says 61 (Err Broken) e)
+  id_fault Repeated e =
+      let s = says 61 (Err Repeated) e in
+      has s.0 ∙ rw (lt-leb (length (values_in 61 p)) 1 s.1) (and-false (leb (length (values_in 53 p)) 1))
 
-  has_both : Readable p → (kind id : Place) → ReadAs 53 p kind → ReadAs 61 p id → has_options p ≡ true
-  has_both r kind id k i = has r ∙ rw (at_most_one 53 kind k, at_most_one 61 id i)
+  at_most_one : (code : ℕ) (q : std.Option Place) → ReadAs code p q → leb (length (values_in code p)) 1 ≡ true
+  at_most_one code None r = rw r.are
+  at_most_one code (Some q) r = rw r.are
 
-  pub tells_absent : (kind : Place) → ReadAs 53 p kind → Says 61 Absent → Tells p (walk.Found (record { kind = kind; id = place.Absent }))
-  tells_absent kind k s = let i = read_absent 61 s in (has_both s.0 kind place.Absent k i, k, i, tt)
+  stands : (q : std.Option Place) → Says 61 (Ok q) → Stands p q
+  stands None s = tt
+  stands (Some q) s = s.3
 
-  pub tells_once : (kind : Place) (at n : ℕ) → ReadAs 53 p kind → Says 61 (Once at n) → Tells p (walk.Found (record { kind = kind; id = place.At at n }))
-  tells_once kind at n k s = let i = read_once 61 at n s in (has_both s.0 kind (place.At at n) k i, k, i, s.3)
+  pub tells : (kind id : std.Option Place) → Ok kind ≡ occurrence 53 p → Ok id ≡ occurrence 61 p → Tells p (Ok (record { kind = kind; id = id }))
+  tells kind id e f =
+      let s = says 53 (Ok kind) e in
+      let t = says 61 (Ok id) f in
+      let k = read_as 53 kind s in
+      let i = read_as 61 id t in
+      (has (readable 53 kind s) ∙ rw (at_most_one 53 kind k, at_most_one 61 id i), k, i, stands id t)
 
 -- ---- a value that stands at a place, by the octets from there to its end
 pub slice_is : (p : List ℕ) (at n : ℕ) → take (at + n - at) (drop at p) ≡ part p at n
 slice_is p at n = let e : at + n - at ≡ n = omega arith in ap (λ (k : ℕ). take k (drop at p)) e
 
--- ---- the values of an option, by its occurrence
-module _ (p : List ℕ) (code : ℕ) where
-  pub none_faulty : Faulty ≡ occurrence code p → values_in code p ≡ []
-  none_faulty e = rw (says p code Faulty e)
-
-  pub none_absent : Absent ≡ occurrence code p → values_in code p ≡ []
-  none_absent e = (says p code Absent e).1
-
-  pub one : (at n : ℕ) → Once at n ≡ occurrence code p → (values_in code p ≡ part p at n ∷ []) × (at + n ≤ length p)
-  one at n e = let s = says p code (Once at n) e in (s.1, s.2)
-
-  pub more : Repeated ≡ occurrence code p → (v : List ℕ) × (w : List ℕ) × (vs : List (List ℕ)) × (values_in code p ≡ v ∷ w ∷ vs)
-  more e = go (values_in code p) (says p code Repeated e).1
-    where
-      go : (us : List (List ℕ)) → 1 < length us → (v : List ℕ) × (w : List ℕ) × (vs : List (List ℕ)) × (us ≡ v ∷ w ∷ vs)
-      go [] h = absurd (omega arith)
-      go (v ∷ []) h = absurd (omega arith)
-      go (v ∷ w ∷ vs) h = (v, w, vs, refl)
+-- what is told of the values of an option that is not there just once
+pub told_none : {A : Type 0} (tell : List (List ℕ) → A) (vs : List (List ℕ)) → only_of vs ≡ none → ((v w : List ℕ) (us : List (List ℕ)) → tell (v ∷ w ∷ us) ≡ tell []) → tell vs ≡ tell []
+told_none tell [] e same = refl
+told_none tell (v ∷ []) e same = absurd (some-ne-none v e)
+told_none tell (v ∷ w ∷ us) e same = same v w us

@@ -12,13 +12,13 @@ use native.Mathlib.Nat.{zero-add}
 use native.Mathlib.Numerals.{add-one}
 use borrow.Table.Steps.{cases}
 use borrow.Author.Tests.{leb-true, leb-false, ltb-true, ltb-false}
-use Rattle.leasepacket.specs.declared.options.Occurrence.{Occurrence}
-use Rattle.leasepacket.specs.declared.options.Occurrence.TheVariants.{Faulty, Absent, Once, Repeated}
-use Rattle.leasepacket.specs.declared.options.Step.{Step}
-use Rattle.leasepacket.specs.declared.options.Step.TheVariants.{More, Done, Broken}
+use Rattle.std.specs.Prelude as std
+use Rattle.std.specs.Prelude.{Some, None, Result, Ok, Err}
+use Rattle.leasepacket.specs.declared.options.Fault.{Fault}
+use Rattle.leasepacket.specs.declared.options.Fault.TheVariants.{Broken, Repeated}
 use Rattle.leasepacket.specs.Options.{Opt, followed, options, values}
-use Rattle.leasepacket.specs.Occurrence.{before, place_of, counted, occurrence_in, occurrence}
-use Rattle.leasepacket.specs.Places.{noted_of, step_of}
+use Rattle.leasepacket.specs.Occurrence.{before, place_of, Occurrence, counted, occurrence_in, occurrence}
+use Rattle.leasepacket.specs.Places.{noted_of, place_behind, step_of}
 
 -- ---- the octets that belong to an option are passed
 pub skip_past : (k : ℕ) (l : List ℕ) → length l < k → options k l ≡ none
@@ -99,30 +99,28 @@ module _ (s : List ℕ) (code at : ℕ) (below : at < length s) where
 
 -- ---- what the options come to when some were seen and others are left, the next of the code at a place
 abbrev seen_then : Occurrence → ℕ → List (List ℕ) → Occurrence
-seen_then Faulty at vs = Faulty
-seen_then Absent at vs = counted at vs
-seen_then (Once a n) at [] = Once a n
-seen_then (Once a n) at (v ∷ vs) = Repeated
-seen_then Repeated at vs = Repeated
+seen_then (Ok None) at vs = counted at vs
+seen_then (Ok (Some q)) at [] = Ok (Some q)
+seen_then (Ok (Some q)) at (v ∷ vs) = Err Repeated
+seen_then (Err fault) at vs = Err fault
 
 abbrev pub left : ℕ → Occurrence → ℕ → Option (List Opt) → Occurrence
-left code seen at none = Faulty
+left code seen at none = Err Broken
 left code seen at (some os) = seen_then seen at (values code os)
 
-pub left_all : (code : ℕ) (p : List ℕ) → occurrence code p ≡ left code Absent (240 + before code 0 (drop 240 p)) (options 0 (drop 240 p))
+pub left_all : (code : ℕ) (p : List ℕ) → occurrence code p ≡ left code (Ok None) (240 + before code 0 (drop 240 p)) (options 0 (drop 240 p))
 unfolding occurrence place_of
 left_all code p = go (options 0 (drop 240 p))
   where
-    go : (os : Option (List Opt)) → occurrence_in code (240 + before code 0 (drop 240 p)) os ≡ left code Absent (240 + before code 0 (drop 240 p)) os
+    go : (os : Option (List Opt)) → occurrence_in code (240 + before code 0 (drop 240 p)) os ≡ left code (Ok None) (240 + before code 0 (drop 240 p)) os
     go none = refl
     go (some os) = refl
 
 left_nothing : (code : ℕ) (seen : Occurrence) (at : ℕ) → left code seen at (some []) ≡ seen
 unfolding values
-left_nothing code Faulty at = refl
-left_nothing code Absent at = refl
-left_nothing code (Once a n) at = refl
-left_nothing code Repeated at = refl
+left_nothing code (Ok None) at = refl
+left_nothing code (Ok (Some q)) at = refl
+left_nothing code (Err fault) at = refl
 
 module _ (code : ℕ) (o : Opt) (at to : ℕ) where
   -- an option of another code changes nothing
@@ -132,38 +130,37 @@ module _ (code : ℕ) (o : Opt) (at to : ℕ) where
   left_other e q seen (some os) = rw (e, q)
 
   -- one of the code is noted
-  noted_first : (v : List ℕ) (vs : List (List ℕ)) → counted at (v ∷ vs) ≡ seen_then (Once at (length v)) to vs
+  noted_first : (v : List ℕ) (vs : List (List ℕ)) → counted at (v ∷ vs) ≡ seen_then (Ok (Some (record { at = at; len = length v }))) to vs
   noted_first v [] = refl
   noted_first v (w ∷ vs) = refl
 
-  noted_again : (seen : Occurrence) (vs : List (List ℕ)) → seen_then seen at (o.octets ∷ vs) ≡ seen_then (noted_of seen at (length o.octets)) to vs
-  noted_again Faulty vs = refl
-  noted_again Absent vs = noted_first o.octets vs
-  noted_again (Once a n) vs = refl
-  noted_again Repeated vs = refl
+  noted_again : (seen : Occurrence) (vs : List (List ℕ)) → seen_then seen at (o.octets ∷ vs) ≡ seen_then (noted_of seen (record { at = at; len = length o.octets })) to vs
+  noted_again (Ok None) vs = noted_first o.octets vs
+  noted_again (Ok (Some q)) vs = refl
+  noted_again (Err fault) vs = refl
 
-  left_one : eqb o.code code ≡ true → (seen : Occurrence) (os : Option (List Opt)) → left code seen at (followed o os) ≡ left code (noted_of seen at (length o.octets)) to os
+  left_one : eqb o.code code ≡ true → (seen : Occurrence) (os : Option (List Opt)) → left code seen at (followed o os) ≡ left code (noted_of seen (record { at = at; len = length o.octets })) to os
   unfolding values
   left_one e seen none = refl
   left_one e seen (some os) = rw e (noted_again seen (values code os))
 
 -- ---- what a step at a place tells of the options from there on
-abbrev pub Told : List ℕ → ℕ → ℕ → Occurrence → Step → Type 0
-Told s code at whole (More n seen) = (whole ≡ left code seen (n + before code 0 (drop n s)) (options 0 (drop n s))) × (at < length s) × (at < n)
-Told s code at whole (Done seen) = whole ≡ seen
-Told s code at whole Broken = whole ≡ Faulty
+abbrev pub Told : List ℕ → ℕ → ℕ → Occurrence → Occurrence → Result (std.Option (ℕ × Occurrence)) Fault → Type 0
+Told s code at seen whole (Ok (Some t)) = (whole ≡ left code t.1 (t.0 + before code 0 (drop t.0 s)) (options 0 (drop t.0 s))) × (at < length s) × (at < t.0)
+Told s code at seen whole (Ok None) = whole ≡ seen
+Told s code at seen whole (Err fault) = whole ≡ Err fault
 
 module _ (s : List ℕ) (code at : ℕ) (seen : Occurrence) where
   abbrev whole : Occurrence
   whole = left code seen (at + before code 0 (drop at s)) (options 0 (drop at s))
 
-  abbrev told : Step → Type 0
-  told step = Told s code at whole step
+  abbrev told : Result (std.Option (ℕ × Occurrence)) Fault → Type 0
+  told step = Told s code at seen whole step
 
-  faulty : options 0 (drop at s) ≡ none → whole ≡ Faulty
+  faulty : options 0 (drop at s) ≡ none → whole ≡ Err Broken
   faulty e = rw e
 
-  past_end : length s ≤ at → whole ≡ Faulty
+  past_end : length s ≤ at → whole ≡ Err Broken
   unfolding options
   past_end h = faulty (rw (drop_of_length-le s h))
 
@@ -180,23 +177,23 @@ module _ (s : List ℕ) (code at : ℕ) (seen : Occurrence) where
     size : length o.octets ≡ get_or s (at + 1) 0
     size = length-take-le (get_or s (at + 1) 0) (drop (at + 2) s) (rw length-drop (omega arith))
 
-    one_told : eqb (get_or s at 0) code ≡ true → told (More next (noted_of seen (at + 2) (get_or s (at + 1) 0)))
+    one_told : eqb (get_or s at 0) code ≡ true → told (Ok (Some (next, noted_of seen (place_behind s at))))
     one_told g =
         let b = before_here s code at below i j g in
         let m = next + before code 0 (drop next s) in
         let t = left_one code o (at + 2) m g seen (options 0 (drop next s)) in
-        (on ∙ ap (λ (k : ℕ). left code seen k (followed o (options 0 (drop next s)))) b ∙ t ∙ ap (λ (k : ℕ). left code (noted_of seen (at + 2) k) m (options 0 (drop next s))) size, below, omega arith)
+        (on ∙ ap (λ (k : ℕ). left code seen k (followed o (options 0 (drop next s)))) b ∙ t ∙ ap (λ (k : ℕ). left code (noted_of seen (record { at = at + 2; len = k })) m (options 0 (drop next s))) size, below, omega arith)
 
-    other_told : eqb (get_or s at 0) code ≡ false → told (More next seen)
+    other_told : eqb (get_or s at 0) code ≡ false → told (Ok (Some (next, seen)))
     other_told g = (on ∙ left_other code o _ _ g (before_past s code at below i j h g) seen (options 0 (drop next s)), below, omega arith)
 
-    option_told : told (More next (cond (eqb (get_or s at 0) code) (noted_of seen (at + 2) (get_or s (at + 1) 0)) seen))
+    option_told : told (Ok (Some (next, cond (eqb (get_or s at 0) code) (noted_of seen (place_behind s at)) seen)))
     option_told = cases (eqb (get_or s at 0) code) (λ g. simp g (one_told g)) (λ g. simp g (other_told g))
 
-  padding_told : at < length s → eqb (get_or s at 0) 255 ≡ false → eqb (get_or s at 0) 0 ≡ true → told (More (at + 1) seen)
+  padding_told : at < length s → eqb (get_or s at 0) 255 ≡ false → eqb (get_or s at 0) 0 ≡ true → told (Ok (Some (at + 1, seen)))
   padding_told below i j = (rw (at_padding s code at below i j, before_padding s code at below i j), below, omega arith)
 
-  end_told : at < length s → eqb (get_or s at 0) 255 ≡ true → told (Done seen)
+  end_told : at < length s → eqb (get_or s at 0) 255 ≡ true → told (Ok None)
   end_told below i = ap (left code seen (at + before code 0 (drop at s))) (at_end s code at below i) ∙ left_nothing code seen (at + before code 0 (drop at s))
 
   pub step_told : told (step_of s code at seen)

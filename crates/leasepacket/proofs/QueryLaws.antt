@@ -4,34 +4,25 @@ use mathlib.Core.Path.{◌≡◌, refl, sym, ap, ◌∙◌}
 use mathlib.Core.List.{List, [], ◌∷◌}
 use mathlib.Core.Bool.{Bool, true, false, cond, not, ◌&&◌, ◌||◌, and-true, true≢false}
 use native.Mathlib.Omega.{arith}
-use native.Mathlib.Numerals.{add-one}
 use borrow.Table.Steps.{cases}
 use borrow.Author.Tests.{eq-eqb, ne_eqb, eqb-true, ltb-false, leb-true}
 use lib.Dec.{eqb, ltb, leb}
-use lib.ListN.{length, take, drop, get_or, length-drop, drop_of_length-le}
+use lib.ListN.{length, take, drop, get_or, length-drop}
 use lib.Seq.{drop-cons, length-take-le}
+use Rattle.std.specs.List.{list_any}
 use Rattle.octets.specs.Compare.{same_octets}
 use Rattle.octets.specs.Number.{number_at}
 use Rattle.octets.proofs.CompareLaws.{same_lengths}
 use Rattle.octets.proofs.BoolLaws.{and_left}
 use Rattle.leasepacket.specs.Packet.{part, htype, hlen, ciaddr, chaddr, cookie, is_packet}
 use Rattle.leasepacket.specs.Options.{values_in}
-use Rattle.leasepacket.specs.declared.query.Query.TheVariants.{Refused}
 use Rattle.leasepacket.specs.Query.{any_set, Asked, refused, by_address, by_hardware, by_client_id, has_hardware_key, keys, id_or, key_of, is_short, has_bad_length, refusals, first_of, asking}
 use Rattle.leasepacket.specs.Reading.{id_place, read_at, reading}
 
-module _ (s : List ℕ) (i : ℕ) where
-  pub set_found : i < length s → (get_or s i 0 ≡ 0 → ⊥) → any_set (drop i s) ≡ true
-  unfolding any_set
-  set_found h k = rw (drop-cons s i 0 h) (simp (ne_eqb _ _ k))
-
-  pub set_next : i < length s → get_or s i 0 ≡ 0 → any_set (drop i s) ≡ any_set (drop (i + 1) s)
-  unfolding any_set
-  set_next h k = rw (add-one, drop-cons s i 0 h) (simp (eq-eqb _ _ k))
-
-  pub set_end : length s ≤ i → any_set (drop i s) ≡ false
-  unfolding any_set
-  set_end h = ap any_set (drop_of_length-le s h)
+pub set_any : (s : List ℕ) → any_set s ≡ list_any (λ x. not (eqb x 0)) s
+unfolding any_set
+set_any [] = refl
+set_any (x ∷ xs) = ap (λ (b : Bool). not (eqb x 0) || b) (set_any xs)
 
 -- A place inside the packet has as many octets as it says.
 pub part_length : (p : List ℕ) (at n : ℕ) → at + n ≤ length p → length (take n (drop at p)) ≡ n
@@ -44,7 +35,7 @@ module _ (p : List ℕ) where
   reads a e = sym (ap (read_at (id_place p)) e)
 
   module _ (n : ℕ) (b : Bool) (rest : List (ℕ × Bool)) (past : asking p ≡ first_of ((n, b) ∷ rest) (key_of p)) where
-    pub applies : b ≡ true → Refused n ≡ reading p
+    pub applies : b ≡ true → read_at (id_place p) (refused n) ≡ reading p
     unfolding first_of
     applies t = reads (refused n) (past ∙ rw t)
 

@@ -40,6 +40,12 @@ values_of code (some os) = values code os
 abbrev pub values_in : ℕ → List ℕ → List (List ℕ)
 values_in code p = values_of code (options 0 (option_area p))
 
+-- The value of an option that is there just once.
+abbrev pub only_of : List (List ℕ) → Option (List ℕ)
+only_of [] = none
+only_of (v ∷ []) = some v
+only_of (v ∷ w ∷ vs) = none
+
 -- The options of a packet can be read, with the message type and the client id at most once each. If not, that is refusal 3, of a query and
 -- of a reply.
 abbrev pub at_most_once : Option (List Opt) → Bool

@@ -2,7 +2,7 @@
 use Rattle.std.specs.Prelude.{ℕ, Bool, true, false, not, ◌||◌, List, [], ◌∷◌, eqb, length}
 use Rattle.std.proofs.Math.Option.{Option, none, some}
 use Rattle.leasepacket.specs.Packet.{parameter_request_list}
-use Rattle.leasepacket.specs.Options.{values_in}
+use Rattle.leasepacket.specs.Options.{values_in, only_of}
 
 -- The list of a query is there at most once, and has a code. If not, that is refusal 3; in a reply the list means nothing.
 abbrev pub list_fits : List (List ℕ) → Bool
@@ -10,14 +10,9 @@ list_fits [] = true
 list_fits (codes ∷ []) = not (eqb (length codes) 0)
 list_fits (codes ∷ more ∷ rest) = false
 
--- The list, by the values of its option; none where there is no such option, or more than one.
-abbrev pub list_by : List (List ℕ) → Option (List ℕ)
-list_by [] = none
-list_by (codes ∷ []) = some codes
-list_by (codes ∷ more ∷ rest) = none
-
+-- The list, which is the value of its option; none where there is no such option, or more than one.
 abbrev pub request_list : List ℕ → Option (List ℕ)
-request_list p = list_by (values_in parameter_request_list p)
+request_list p = only_of (values_in parameter_request_list p)
 
 -- A code stands in a list, once or more often.
 unfoldable pub is_listed : ℕ → List ℕ → Bool

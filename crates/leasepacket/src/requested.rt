@@ -5,11 +5,11 @@ ghost use Rattle.leasepacket.specs.Options.{values_in};
 ghost use Rattle.leasepacket.specs.Requested.{list_fits, request_list, is_listed};
 ghost use Rattle.leasepacket.specs.Reading.{requested_in};
 
-use crate::options::Occurrence;
+use crate::options::Fault;
 use crate::{layout, options};
 
 // Which of the options that go out only if they are asked for a query asks for.
-#[derive(Drop)]
+#[derive(Clone, Copy, PartialEq, Eq, Debug)]
 pub struct Requested {
     pub seconds_left: bool,
     pub client_id: bool,
@@ -22,25 +22,19 @@ pub fn does_list_fit(p: &[u8]) -> bool
     ensures { result ≡ list_fits (values_in 55 p.now) }
 {
     match options::find(p, layout::PARAMETER_REQUEST_LIST) {
-        Occurrence::Faulty => true,
-        Occurrence::Absent => true,
-        Occurrence::Once(_, n) => n != 0,
-        Occurrence::Repeated => false,
+        Ok(Some(list)) => list.len != 0,
+        Ok(None) => true,
+        Err(Fault::Broken) => true,
+        Err(Fault::Repeated) => false,
     }
 }
 
 // Whether a code stands in a list.
+#[tactic(auto, using(crate::proofs::RequestedLaws::listed_any))]
 fn is_listed(codes: &[u8], code: u8) -> bool
     ensures { result ≡ is_listed code codes.now }
 {
-    let mut i = 0;
-    while i < codes.len() {
-        if codes[i] == code {
-            return true;
-        }
-        i += 1;
-    }
-    false
+    codes.contains(&code)
 }
 
 // What a list asks for.
@@ -71,13 +65,8 @@ fn all() -> Requested
 pub fn read(p: &[u8]) -> Requested
     ensures { result ≡ requested_in (request_list p.now) }
 {
-    match options::find(p, layout::PARAMETER_REQUEST_LIST) {
-        Occurrence::Faulty => all(),
-        Occurrence::Absent => all(),
-        Occurrence::Once(at, n) => {
-            let end = at + n;
-            listed(&p[at..end])
-        }
-        Occurrence::Repeated => all(),
+    match options::only_value(p, layout::PARAMETER_REQUEST_LIST) {
+        Some(codes) => listed(codes),
+        None => all(),
     }
 }

@@ -2,18 +2,26 @@
 use Prim.Native.Nat.{ℕ, ◌-◌, ◌≤◌, ◌<◌, min}
 use mathlib.Core.Path.{◌≡◌, refl, sym, ap, ◌∙◌}
 use mathlib.Core.List.{List, [], ◌∷◌}
-use mathlib.Core.Bool.{true, false}
+use mathlib.Core.Bool.{Bool, true, false}
 use native.Mathlib.Omega.{arith}
 use lib.ListN.{length, drop, replicate, length-take, length-drop, length-replicate}
 use borrow.Author.Tests.{lt-ltb, le-ltb, eq-eqb, ne_eqb}
+use Rattle.std.specs.Prelude.{Result}
+use Rattle.clock.specs.declared.Moment.{Moment}
+use Rattle.clock.specs.Clock.{is_moment}
 use Rattle.octets.specs.Write.{laid, Laid}
 use Rattle.octets.proofs.WriteLaws.{written, put_front, laid_nothing}
 use Rattle.lease.specs.Lease.{active_at}
 use Rattle.lease.proofs.ListLaws.{take_min}
 use Rattle.leasepacket.specs.Packet.{part}
+use Rattle.leasepacket.specs.declared.query.Query.{Query}
+use Rattle.leasepacket.specs.declared.query.Refusal.{Refusal}
+use Rattle.leasepacket.specs.Query.{first_of}
+use Rattle.leasepacket.specs.Reading.{reading, asked}
+use Rattle.leasepacket.proofs.ReadingLaws.{read_asks}
 use Rattle.leasetable.specs.declared.look.Found.{Found}
 use Rattle.leasequery.specs.Answer.{refusal}
-use Rattle.leasequery.specs.Stages.{padded, other_of, active_of, concluded}
+use Rattle.leasequery.specs.Stages.{padded, asked_at, other_of, active_of, concluded}
 
 -- ---- octets of the packet
 pub part_length : (p : List ℕ) (at n : ℕ) → length (part p at n) ≡ min n (length p - at)
@@ -44,6 +52,11 @@ padded_written {ys} {l} {n} o e h w =
     let r : length {A = ℕ} (replicate 64 0) ≡ 64 = length-replicate {A = ℕ} 64 0 in
     let q : length ys ≡ length o = ap length e in
     ((written w).fit (omega arith)).list ∙ put_front (replicate 64 0) ys ∙ ap (λ (v : List ℕ). laid v (replicate 64 0)) e ∙ sym (padded_laid o h)
+
+-- ---- what is asked where only the packet can be refused, by what was read of it
+pub asked_read : (clock : Moment) (ok : Bool) (query : List ℕ) (room : ℕ) {r : Result Query Refusal} → r ≡ reading query → is_moment clock ≡ true → ok ≡ true → 648 ≤ room → asked query r ≡ asked_at clock ok query room
+unfolding asked_at first_of
+asked_read clock ok query room e m k h = ap (asked query) e ∙ read_asks query ∙ rw (m, k, le-ltb room 648 h)
 
 -- ---- the conclusion, by each way out of it
 module _ (h : Found) (server : ℕ) (query buffer : List ℕ) where

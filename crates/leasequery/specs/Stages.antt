@@ -1,9 +1,14 @@
 -- What the functions below the exported call hand on. Only their contracts cite this.
-use Rattle.std.specs.Prelude.{ℕ, min, Bool, cond, not, List, [], ◌∷◌, ltb, eqb, length, replicate}
+use Rattle.std.specs.Prelude.{ℕ, min, Bool, cond, not, List, [], ◌∷◌, ltb, eqb, length, replicate, Result, Ok, Err}
 use Rattle.clock.specs.declared.Moment.{Moment}
 use Rattle.clock.specs.Clock.{is_moment}
 use Rattle.octets.specs.Write.{laid}
 use Rattle.lease.specs.Lease.{active_at}
+use Rattle.leasepacket.specs.declared.query.Query.{Query}
+use Rattle.leasepacket.specs.Reading.{asked_by}
+use Rattle.leasepacket.specs.Reading as packet
+use Rattle.leasequery.specs.declared.ask.Refusal.{Refusal}
+use Rattle.leasequery.specs.declared.ask.Refusal.TheVariants.{NotMoment, BadTable, NoRoom, Packet}
 use Rattle.leasepacket.specs.Query.{Asked, refused, by_address, by_hardware, by_client_id, first_of, asking}
 use Rattle.leasetable.specs.declared.client.Key.{Key}
 use Rattle.leasetable.specs.declared.candidates.Candidates.{Candidates}
@@ -57,6 +62,18 @@ start_for clock a = no_candidates clock (refusal_in a) (key_for a)
 unfoldable pub asked_at : Moment → Bool → List ℕ → ℕ → Asked
 asked_at clock ok query room =
     first_of ((15, not (is_moment clock)) ∷ (9, not ok) ∷ (8, ltb room 648) ∷ []) (asking query)
+
+-- the number of a refusal
+abbrev pub number_of : Refusal → ℕ
+number_of NotMoment = 15
+number_of BadTable = 9
+number_of NoRoom = 8
+number_of (Packet r) = packet.number_of r
+
+-- what is asked, from what was read of a packet or the refusal
+abbrev pub asked_or_refused : List ℕ → Result Query Refusal → Asked
+asked_or_refused query (Ok q) = asked_by query q
+asked_or_refused query (Err r) = refused (number_of r)
 
 -- the reply of a kind that tells of no lease, and that which tells of an active one, with the addresses of the first n ranks
 abbrev pub other_of : ℕ → ℕ → List ℕ → List ℕ → Outcome

@@ -1,8 +1,9 @@
 // What a query has looked for in the table, or the refusal because of which nothing is looked for.
 ghost use Rattle.std.specs.Prelude.{◌≡◌, ◌-◌, min};
 ghost use Rattle.leasepacket.specs.Packet.{part};
-ghost use Rattle.leasepacket.specs.Reading.{asked};
-ghost use Rattle.leasequery.specs.Stages.{padded, key_for, id_key, refusal_in, no_candidates, start_for, asked_at};
+ghost use Rattle.leasepacket.specs.Reading.{asked_by};
+ghost use Rattle.leasequery.specs.declared.ask.Refusal.TheVariants.{Packet};
+ghost use Rattle.leasequery.specs.Stages.{padded, no_key, key_for, id_key, no_candidates, start_for, asked_at, number_of, asked_or_refused};
 
 use clock::Moment;
 use lease::Rank;
@@ -13,6 +14,36 @@ use leasetable::candidates::Candidates;
 use leasetable::client::Key;
 use leasetable::form::Form;
 use octets::write;
+
+// Why nothing is looked for, in the order of the refusals.
+#[derive(Clone, Copy, PartialEq, Eq, Debug)]
+pub enum Refusal {
+    NotMoment,
+    BadTable,
+    NoRoom,
+    Packet(query::Refusal),
+}
+
+impl From<query::Refusal> for Refusal {
+    ghost from_gives = { λ r s. s ≡ Packet r };
+
+    fn from(refusal: query::Refusal) -> Refusal {
+        Refusal::Packet(refusal)
+    }
+}
+
+impl From<Refusal> for u32 {
+    ghost from_gives = { λ r n. n ≡ number_of r };
+
+    fn from(refusal: Refusal) -> u32 {
+        match refusal {
+            Refusal::NotMoment => 15,
+            Refusal::BadTable => 9,
+            Refusal::NoRoom => 8,
+            Refusal::Packet(refusal) => u32::from(refusal),
+        }
+    }
+}
 
 // How many of n octets from a place on there are.
 fn available(len: usize, at: usize, n: usize) -> usize
@@ -58,49 +89,39 @@ fn id_key(p: &[u8], at: usize, n: usize) -> Key
     }
 }
 
-// The key of a query.
-fn key_for(p: &[u8], q: Query) -> Key
-    ensures { result ≡ key_for (asked p.now q) }
+// The key of what is not looked for.
+fn no_key() -> Key
+    ensures { result ≡ no_key }
 {
-    let none = [0; 64];
-    match q {
-        Query::Refused(_) => Key {
-            kind: 0,
-            htype: 0,
-            len: 0,
-            address: 0,
-            octets: none,
-        },
+    Key {
+        kind: 0,
+        htype: 0,
+        len: 0,
+        address: 0,
+        octets: [0; 64],
+    }
+}
+
+// The key of a query.
+fn key_for(p: &[u8], query: Query) -> Key
+    ensures { result ≡ key_for (asked_by p.now query) }
+{
+    match query {
         Query::ByAddress(address) => Key {
             kind: 1,
             htype: 0,
             len: 0,
             address,
-            octets: none,
+            octets: [0; 64],
         },
-        Query::ByHardware(htype, hlen) => {
-            let octets = octets_from(p, layout::CHADDR, 16);
-            Key {
-                kind: 2,
-                htype,
-                len: hlen,
-                address: 0,
-                octets,
-            }
-        }
-        Query::ByClientId(at, n) => id_key(p, at, n),
-    }
-}
-
-// The refusal of a query, or 0.
-fn refusal_of(p: &[u8], q: Query) -> u32
-    ensures { result ≡ refusal_in (asked p.now q) }
-{
-    match q {
-        Query::Refused(n) => n as u32,
-        Query::ByAddress(_) => 0,
-        Query::ByHardware(_, _) => 0,
-        Query::ByClientId(_, _) => 0,
+        Query::ByHardware(htype, hlen) => Key {
+            kind: 2,
+            htype,
+            len: hlen,
+            address: 0,
+            octets: octets_from(p, layout::CHADDR, 16),
+        },
+        Query::ByClientId(id) => id_key(p, id.at, id.len),
     }
 }
 
@@ -123,29 +144,29 @@ fn start(clock: Moment, refusal: u32, key: Key) -> Candidates
     }
 }
 
-// The refusals in their order: 15, 9, 8, then those of the packet.
-#[tactic(auto, using(leasepacket::proofs::ReadingLaws::read_asks), unfolding(crate::specs::Stages::asked_at, leasepacket::specs::Query::first_of))]
-fn first_refusal(clock: Moment, ok: bool, p: &[u8], room: usize) -> Query
-    ensures { asked p.now result ≡ asked_at clock ok p.now room }
+// What is asked for, or the first refusal that applies: 15, 9, 8, then those of the packet.
+#[tactic(auto, unfolding(crate::specs::Stages::asked_at, leasepacket::specs::Query::first_of))]
+fn first_refusal(clock: Moment, ok: bool, p: &[u8], room: usize) -> Result<Query, Refusal>
+    ensures { asked_or_refused p.now result ≡ asked_at clock ok p.now room }
 {
     if !clock::is_moment(clock) {
-        return Query::Refused(15);
+        return Err(Refusal::NotMoment);
     }
     if !ok {
-        return Query::Refused(9);
+        return Err(Refusal::BadTable);
     }
     if room < reply::ROOM {
-        return Query::Refused(8);
+        return Err(Refusal::NoRoom);
     }
-    query::read(p)
+    Ok(query::read(p)?)
 }
 
 // What is looked for.
 pub fn ask(clock: Moment, table: Form, p: &[u8], room: usize) -> Candidates
     ensures { result ≡ start_for clock (asked_at clock table.ok p.now room) }
 {
-    let q = first_refusal(clock, table.ok, p, room);
-    let refusal = refusal_of(p, q);
-    let key = key_for(p, q);
-    start(clock, refusal, key)
+    match first_refusal(clock, table.ok, p, room) {
+        Ok(query) => start(clock, 0, key_for(p, query)),
+        Err(refusal) => start(clock, u32::from(refusal), no_key()),
+    }
 }

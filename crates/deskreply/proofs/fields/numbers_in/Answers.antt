@@ -7,14 +7,14 @@ use Rattle.deskreply.proofs.fields.numbers_in.Goals as goal
 
 pub loop-i-init : goal.loop-i-init
 unfolding numbers
-loop-i-init c = (sym (put_nil (replicate 63 0) 0), omega arith)
+loop-i-init c = sym (put_nil (replicate 63 0) 0)
 
 pub loop-i-preserved : goal.loop-i-preserved
 loop-i-preserved c =
-    (ap (set c.loop-i.list c.loop-i.i) c.u32_at.ensures ∙ numbers_more (replicate 63 0) c.args.v.now c.loop-i.list c.loop-i.i (omega arith) c.loop-i.invariant.0, omega arith)
+    ap (set c.loop-i.list c.loop-i.i) c.u32_at.ensures ∙ numbers_more (replicate 63 0) c.args.v.now c.loop-i.list c.loop-i.i (omega arith) c.loop-i.invariant
 
 pub returns : goal.returns
 returns c =
     let v = c.args.v.now in
     let e : c.loop-i.i ≡ length v / 4 = omega arith in
-    c.loop-i.invariant.0 ∙ rw e (put_front (replicate 63 0) (numbers (length v / 4) v))
+    c.loop-i.invariant ∙ rw e (put_front (replicate 63 0) (numbers (length v / 4) v))

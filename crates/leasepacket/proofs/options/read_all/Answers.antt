@@ -1,14 +1,18 @@
-use Rattle.leasepacket.proofs.OccurrenceLaws.{faulty, kind_repeated, read_absent, read_once, says}
+use Rattle.std.proofs.Common.{sym, subst}
+use Rattle.std.proofs.lemmas.Result.{err_from_is_err_and}
+use Rattle.leasepacket.specs.Places.{Tells}
+use Rattle.leasepacket.proofs.OccurrenceLaws.{kind_fault, id_fault, tells}
 use Rattle.leasepacket.proofs.options.read_all.Goals as goal
 
-pub with_id-requires : goal.with_id-requires
-with_id-requires c = read_absent c.args.s.now 53 (says c.args.s.now 53 _ c.in-Absent.ensures)
+pub returns-in_err-kind : goal.returns-in_err-kind
+returns-in_err-kind c =
+    let r = err_from_is_err_and c.from_residual.result c.from_residual.ensures.1 in
+    subst (Tells c.args.s.now) (sym r.1) (kind_fault _ _ c.in_err-kind.ensures)
 
-pub with_id-requires-in-Once : goal.with_id-requires-in-Once
-with_id-requires-in-Once c = read_once c.args.s.now 53 _ _ (says c.args.s.now 53 _ c.in-Once.ensures)
+pub returns-in_err-id : goal.returns-in_err-id
+returns-in_err-id c =
+    let r = err_from_is_err_and c.from_residual-in_err-id.result c.from_residual-in_err-id.ensures.1 in
+    subst (Tells c.args.s.now) (sym r.1) (id_fault _ _ c.in_err-id.ensures)
 
-pub returns-in-Faulty : goal.returns-in-Faulty
-returns-in-Faulty c = faulty c.args.s.now (says c.args.s.now 53 _ c.in-Faulty.ensures)
-
-pub returns-in-Repeated : goal.returns-in-Repeated
-returns-in-Repeated c = kind_repeated c.args.s.now (says c.args.s.now 53 _ c.in-Repeated.ensures)
+pub returns : goal.returns
+returns c = tells _ _ _ c.in_ok-kind.ensures c.in_ok-id.ensures

@@ -1,47 +1,34 @@
-use Rattle.std.proofs.Common.{sym, ◌∙◌, ap, subst}
+use Rattle.std.proofs.Common.{ℕ, Ok, sym, ◌∙◌, ap, subst}
 use Rattle.leasepacket.specs.declared.query.Query.TheVariants.{ByAddress}
 use Rattle.leasepacket.specs.Places.{Passed}
-use Rattle.leasepacket.proofs.ReadingLaws.{no_key_lem, two_keys, address_key, hardware_key_lem, address_and_id, hardware_and_id, short_id, id_key_lem}
+use Rattle.leasepacket.proofs.ReadingLaws.{keys_counted, refuses_6, passed_6, hardware_alone, address_read, short_id, id_read}
 use Rattle.leasepacket.proofs.query.by_key.Goals as goal
+
+pub returns-then-count_keys-ne1 : goal.returns-then-count_keys-ne1
+returns-then-count_keys-ne1 c =
+    let k = keys_counted _ _ c.requires c.u32_at-address.ensures c.has_hardware_key-hardware.ensures c.count_keys.ensures in
+    refuses_6 _ _ c.requires (λ z. c.if-count_keys-ne1.true (k ∙ z))
 
 pub by_hardware-requires : goal.by_hardware-requires
 by_hardware-requires c =
-    let s = subst (Passed 5 c.args.p.now) c.in-Absent.is c.requires in
+    let k = keys_counted _ _ c.requires c.u32_at-address.ensures c.has_hardware_key-hardware.ensures c.count_keys.ensures in
     let h = sym c.if-hardware.ensures in
-    (hardware_key_lem _ s (sym c.u32_at-address.ensures ∙ c.if-address-eq0.true) h, h)
+    (hardware_alone _ _ c.requires h (sym k ∙ c.if-count_keys-ne1.false), h)
 
-pub returns-then-address-eq0 : goal.returns-then-address-eq0
-returns-then-address-eq0 c =
-    no_key_lem _ (subst (Passed 5 c.args.p.now) c.in-Absent.is c.requires)
-    (sym c.u32_at-address.ensures ∙ c.if-address-eq0.true) (sym c.if-hardware.ensures)
+pub returns-in_default : goal.returns-in_default
+returns-in_default c =
+    let k = keys_counted _ _ c.requires c.u32_at-address.ensures c.has_hardware_key-hardware.ensures c.count_keys.ensures in
+    let s = passed_6 _ _ c.requires (sym k ∙ c.if-count_keys-ne1.false) in
+    ap (λ (a : ℕ). Ok (ByAddress a)) c.u32_at-address.ensures ∙ address_read _ (subst (Passed 6 c.args.p.now) c.in_default.is s) (sym c.if-hardware.ensures)
 
-pub returns-then-hardware-2 : goal.returns-then-hardware-2
-returns-then-hardware-2 c =
-    two_keys _ (subst (Passed 5 c.args.p.now) c.in-Absent.is c.requires)
-    (λ z. c.if-address-eq0.false (c.u32_at-address.ensures ∙ z)) (sym c.if-hardware-2.ensures)
+pub returns-then-id-lt-SHORTEST_CLIENT_ID : goal.returns-then-id-lt-SHORTEST_CLIENT_ID
+returns-then-id-lt-SHORTEST_CLIENT_ID c =
+    let k = keys_counted _ _ c.requires c.u32_at-address.ensures c.has_hardware_key-hardware.ensures c.count_keys.ensures in
+    let s = passed_6 _ _ c.requires (sym k ∙ c.if-count_keys-ne1.false) in
+    short_id _ _ (subst (Passed 6 c.args.p.now) c.in-Some.is s) (sym c.if-hardware.ensures) c.if-id-lt-SHORTEST_CLIENT_ID.true
 
-pub returns-then-address-ne0 : goal.returns-then-address-ne0
-returns-then-address-ne0 c =
-    address_and_id _ _ _ (subst (Passed 5 c.args.p.now) c.in-At.is c.requires)
-    (λ z. c.if-address-ne0.true (c.u32_at-address.ensures ∙ z))
-
-pub returns-then-hardware-3 : goal.returns-then-hardware-3
-returns-then-hardware-3 c =
-    hardware_and_id _ _ _ (subst (Passed 5 c.args.p.now) c.in-At.is c.requires)
-    (sym c.u32_at-address.ensures ∙ c.if-address-ne0.false) (sym c.if-hardware-3.ensures)
-
-pub returns-then-n-lt-SHORTEST_CLIENT_ID : goal.returns-then-n-lt-SHORTEST_CLIENT_ID
-returns-then-n-lt-SHORTEST_CLIENT_ID c =
-    short_id _ _ _ (subst (Passed 5 c.args.p.now) c.in-At.is c.requires)
-    (sym c.u32_at-address.ensures ∙ c.if-address-ne0.false) (sym c.if-hardware-3.ensures) c.if-n-lt-SHORTEST_CLIENT_ID.true
-
-pub returns-else-hardware-2 : goal.returns-else-hardware-2
-returns-else-hardware-2 c =
-    ap ByAddress c.u32_at-address.ensures
-    ∙ address_key _ (subst (Passed 5 c.args.p.now) c.in-Absent.is c.requires)
-    (λ z. c.if-address-eq0.false (c.u32_at-address.ensures ∙ z)) (sym c.if-hardware-2.ensures)
-
-pub returns-else-n-lt-SHORTEST_CLIENT_ID : goal.returns-else-n-lt-SHORTEST_CLIENT_ID
-returns-else-n-lt-SHORTEST_CLIENT_ID c =
-    id_key_lem _ _ _ (subst (Passed 5 c.args.p.now) c.in-At.is c.requires)
-    (sym c.u32_at-address.ensures ∙ c.if-address-ne0.false) (sym c.if-hardware-3.ensures) c.if-n-lt-SHORTEST_CLIENT_ID.false
+pub returns : goal.returns
+returns c =
+    let k = keys_counted _ _ c.requires c.u32_at-address.ensures c.has_hardware_key-hardware.ensures c.count_keys.ensures in
+    let s = passed_6 _ _ c.requires (sym k ∙ c.if-count_keys-ne1.false) in
+    id_read _ _ (subst (Passed 6 c.args.p.now) c.in-Some.is s) (sym c.if-hardware.ensures) c.if-id-lt-SHORTEST_CLIENT_ID.false
