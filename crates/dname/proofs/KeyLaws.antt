@@ -1,15 +1,16 @@
 -- The laws of folding: what it leaves of a name, and when two names are equal. Assumes nothing.
 use mathlib.Core.Path.{◌≡◌, refl, sym, ◌∙◌, ap, ap₂}
-use mathlib.Core.Bool.{Bool, true, false, and-false}
+use mathlib.Core.Bool.{Bool, true, false, ◌&&◌, and-false}
 use mathlib.Core.List.{List, [], ◌∷◌, ◌++◌, map}
 use mathlib.Core.Logic.{◌⊎◌, inl, inr}
 use Prim.Native.Nat.{ℕ, zero, suc, ◌+◌, ◌≤◌, ◌<◌}
 use native.Mathlib.Omega.{arith}
-use lib.Dec.{ltb}
-use lib.ListN.{length, get_or, drop, length-map, get_or-map}
+use lib.Dec.{eqb, ltb}
+use Rattle.std.specs.List.{list_all, zip}
+use lib.ListN.{length, get_or, length-map, get_or-map}
 use borrow.Author.Tests.{le-leb, lt-leb, ltb-true, ltb-false}
 use Rattle.octets.specs.Compare.{same_octets}
-use Rattle.octets.proofs.CompareLaws.{same_true, same_lengths, same_unlike, same_alike, same_end}
+use Rattle.octets.proofs.CompareLaws.{same_true, same_lengths}
 use Rattle.dname.specs.Name.{labels_of, limited, shape_of, lower, key, same_name}
 use Rattle.dname.specs.Grammar.{Label}
 use Rattle.dname.specs.Folding.{OneLetter, FoldsLabels}
@@ -149,29 +150,13 @@ pub same_folded_lengths : (a b : List ℕ) → (length a ≡ length b → ⊥) �
 unfolding same_name
 same_folded_lengths a b h = same_lengths (key a) (key b) (λ e. h (sym (key_length a) ∙ e ∙ key_length b))
 
-abbrev pub same_from : ℕ → List ℕ → List ℕ → Bool
-same_from i a b = same_octets (drop i (key a)) (drop i (key b))
-
-pub same_from_start : (a b : List ℕ) → same_name a b ≡ same_from 0 a b
-unfolding same_name
-same_from_start a b = refl
-
-module _ (a b : List ℕ) (i : ℕ) (l : length a ≡ length b) where
-  module _ (h : i < length a) where
-    in_a : i < length (key a)
-    in_a = omega (arith, key_length a)
-
-    in_b : i < length (key b)
-    in_b = omega (arith, key_length b)
-
-    pub same_from_unlike : (lower (get_or a i 0) ≡ lower (get_or b i 0) → ⊥) → same_from i a b ≡ false
-    same_from_unlike n = same_unlike (key a) (key b) i in_a in_b (λ e. n (sym (key_at a i) ∙ e ∙ key_at b i))
-
-    pub same_from_alike : lower (get_or a i 0) ≡ lower (get_or b i 0) → same_from i a b ≡ same_from (i + 1) a b
-    same_from_alike e = same_alike (key a) (key b) i in_a in_b (key_at a i ∙ e ∙ sym (key_at b i))
-
-  pub same_from_end : length a ≤ i → same_from i a b ≡ true
-  same_from_end h = same_end (key a) (key b) i (omega (arith, key_length a)) (omega (arith, key_length b))
+-- names of one length are equal where each two octets count as the same
+pub same_pairs : (a b : List ℕ) → length a ≡ length b → list_all (λ p. eqb (lower p.0) (lower p.1)) (zip a b) ≡ same_name a b
+unfolding same_name same_octets key
+same_pairs [] [] h = refl
+same_pairs [] (y ∷ b) h = absurd (omega arith)
+same_pairs (x ∷ a) [] h = absurd (omega arith)
+same_pairs (x ∷ a) (y ∷ b) h = ap (λ (t : Bool). eqb (lower x) (lower y) && t) (same_pairs a b (omega arith))
 
 -- the same octets are the same name
 pub same_octets_name : (a b : List ℕ) → same_octets a b ≡ true → same_name a b ≡ true

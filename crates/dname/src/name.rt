@@ -2,7 +2,7 @@
 ghost use Rattle.std.specs.Prelude.{◌≡◌, take};
 ghost use Rattle.dname.specs.Name.{name_of, is_full};
 
-use crate::Shape;
+use crate::{Shape, shape_of};
 
 // Octets from `len` on are ignored.
 #[repr(C)]
@@ -13,16 +13,11 @@ pub struct Name {
 }
 
 // Whether the octets are a full name.
+#[tactic(auto, unfolding(crate::specs::Name::is_full))]
 pub fn is_full_name(o: &[u8]) -> bool
     ensures { result ≡ is_full o.now }
 {
-    let shape = crate::shape_of(o);
-    match shape {
-        Shape::Empty => false,
-        Shape::Full => true,
-        Shape::Partial => false,
-        Shape::Malformed => false,
-    }
+    matches!(shape_of(o), Shape::Full)
 }
 
 // Whether the first octets, as many as `len` says, are a full name; all of them where there are fewer.
@@ -30,10 +25,7 @@ pub fn is_full_name(o: &[u8]) -> bool
 pub fn are_full(o: &[u8], len: u8) -> bool
     ensures { result ≡ is_full (take len o.now) }
 {
-    let n = len as usize;
-    if o.len() < n {
-        return is_full_name(o);
-    }
+    let n = o.len().min(usize::from(len));
     is_full_name(&o[..n])
 }
 

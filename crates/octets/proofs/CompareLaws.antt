@@ -2,12 +2,11 @@
 use mathlib.Core.Path.{◌≡◌, refl, ap}
 use mathlib.Core.Bool.{Bool, true, false, ◌&&◌, and-false}
 use mathlib.Core.List.{List, [], ◌∷◌}
-use Prim.Native.Nat.{ℕ, suc, ◌+◌, ◌≤◌, ◌<◌}
-use native.Mathlib.Numerals.{add-one}
+use Prim.Native.Nat.{ℕ, suc}
 use lib.Dec.{eqb}
-use lib.ListN.{length, get_or, drop, drop_of_length-le}
-use lib.Seq.{drop-cons}
-use borrow.Author.Tests.{eq-eqb, ne_eqb, eqb-true}
+use lib.ListN.{length}
+use borrow.Author.Tests.{eq-eqb, eqb-true}
+use Rattle.std.specs.Cmp.Lexicographic.{pointwise}
 use Rattle.octets.specs.Compare.{same_octets}
 
 pub same_self : (a : List ℕ) → same_octets a a ≡ true
@@ -26,6 +25,14 @@ same_true (x ∷ xs) (y ∷ ys) e = go (eqb x y) refl e (same_true xs ys)
     go true q r ih = let h : x ≡ y = eqb-true x y q in let t : xs ≡ ys = ih r in cc
     go false q r ih = cc
 
+-- the library's comparison of slices
+pub same_slices : (a b : List ℕ) → pointwise eqb a b ≡ same_octets a b
+unfolding same_octets
+same_slices [] [] = refl
+same_slices [] (y ∷ ys) = refl
+same_slices (x ∷ xs) [] = refl
+same_slices (x ∷ xs) (y ∷ ys) = ap (λ (t : Bool). eqb x y && t) (same_slices xs ys)
+
 -- strings of different lengths are not the same
 pub same_lengths : (a b : List ℕ) → (length a ≡ length b → ⊥) → same_octets a b ≡ false
 unfolding same_octets
@@ -41,19 +48,3 @@ same_differ f a b h = go (same_octets a b) refl
     go : (t : Bool) → same_octets a b ≡ t → t ≡ false
     go true e = absurd (h (ap f (same_true a b e)))
     go false e = refl
-
--- a place where both go on
-same_step : (a b : List ℕ) (i : ℕ) → i < length a → i < length b → same_octets (drop i a) (drop i b) ≡ (eqb (get_or a i 0) (get_or b i 0) && same_octets (drop (i + 1) a) (drop (i + 1) b))
-unfolding same_octets
-same_step a b i h k = rw (add-one, drop-cons a i 0 h, drop-cons b i 0 k)
-
-module _ (a b : List ℕ) (i : ℕ) (h : i < length a) (k : i < length b) where
-  pub same_unlike : (get_or a i 0 ≡ get_or b i 0 → ⊥) → same_octets (drop i a) (drop i b) ≡ false
-  same_unlike n = rw (same_step a b i h k, ne_eqb _ _ n)
-
-  pub same_alike : get_or a i 0 ≡ get_or b i 0 → same_octets (drop i a) (drop i b) ≡ same_octets (drop (i + 1) a) (drop (i + 1) b)
-  same_alike e = rw (same_step a b i h k, eq-eqb _ _ e)
-
-pub same_end : (a b : List ℕ) (i : ℕ) → length a ≤ i → length b ≤ i → same_octets (drop i a) (drop i b) ≡ true
-unfolding same_octets
-same_end a b i h k = rw (drop_of_length-le a h, drop_of_length-le b k)

@@ -1,12 +1,13 @@
 -- The laws by which writes compose. Assumes nothing.
-use Prim.Native.Nat.{ℕ, ◌+◌, ◌≤◌, ◌<◌}
+use Prim.Native.Nat.{ℕ, ◌+◌, ◌-◌, ◌≤◌, ◌<◌}
 use mathlib.Core.List.{List, [], ◌∷◌, ◌++◌, append_assoc}
-use mathlib.Core.Path.{◌≡◌, refl, sym, ap, ◌∙◌}
+use mathlib.Core.Path.{◌≡◌, refl, sym, ap, ap₂, ◌∙◌}
 use native.Mathlib.Omega.{arith}
 use native.Mathlib.Nat.{zero-add, add-zero}
 use native.Mathlib.Numerals.{add-one}
-use lib.ListN.{length, take, drop, get_or, set, length-append, length-drop, take-append-drop, replicate, length-replicate, replicate-append-replicate}
-use lib.Seq.{drop-append-add, drop-drop, set_split, length-take-le, take_at, take-suc}
+use lib.ListN.{length, take, drop, set, length-append, length-drop, take-append-drop, replicate, length-replicate}
+use lib.Seq.{drop-append-add, drop-drop, set_split, length-take-le, take_at}
+use borrow.Rule.Slice.PartMut.{put_mid, post_of, Post-is}
 use borrow.Author.Tests.{le-leb, lt-leb}
 use Rattle.octets.specs.Write.{put, laid, laid_at, next_at, Laid, Wrote, WroteIf}
 
@@ -57,12 +58,6 @@ put_more b ys zs l at i x n z h e =
     ∙ put_put b at ys (x ∷ []) (at + i) (omega arith) (omega arith)
     ∙ ap (put b at) (sym z)
 
-pub copy_more : (b s l : List ℕ) (at i : ℕ) → at + length s ≤ length b → i < length s → l ≡ put b at (take i s) → set l (at + i) (get_or s i 0) ≡ put b at (take (i + 1) s)
-copy_more b s l at i h k e = put_more b (take i s) (take (i + 1) s) l at i (get_or s i 0) (length-take-le i s (omega arith)) (rw (add-one, take-suc s i 0)) (omega arith) e
-
-pub clear_more : (b l : List ℕ) (at n i : ℕ) → at + n ≤ length b → i < n → l ≡ put b at (replicate i 0) → set l (at + i) 0 ≡ put b at (replicate (i + 1) 0)
-clear_more b l at n i h k e = put_more b (replicate i 0) (replicate (i + 1) 0) l at i 0 (length-replicate i 0) (sym (replicate-append-replicate i 1 0)) (omega arith) e
-
 pub wrote_length : {b : List ℕ} {at : ℕ} {ys l : List ℕ} {n : ℕ} → Wrote b at ys l n → length l ≡ length b
 wrote_length {b} {at} {ys} {l} {n} w = ap length w.list ∙ length_put b at ys (omega arith)
 
@@ -76,6 +71,13 @@ laid_in {b} {at} {ys} {l} {n} w =
 pub laid_out : {b : List ℕ} {at : ℕ} (ys : List ℕ) → length b < at + length ys → Laid b at ys b at
 unfolding laid_at next_at
 laid_out ys h = record { list = rw (lt-leb _ _ h); next = rw (lt-leb _ _ h) }
+
+-- the octets of a part of the buffer written over
+pub laid_over : (b : List ℕ) (at end : ℕ) (ys zs : List ℕ) → ys ≡ zs → end ≡ at + length zs → end ≤ length b → Laid b at zs (put_mid at (end - at) b ys) end
+unfolding put
+laid_over b at end ys zs e n h =
+    let d : post_of at (end - at) b ≡ drop (at + length zs) b = Post-is at end b (omega arith) ∙ ap (λ (k : ℕ). drop k b) n in
+    laid_in (record { list = ap₂ (λ (x y : List ℕ). take at b ++ (x ++ y)) e d; next = n; fits = h })
 
 pub zeros_out : {b : List ℕ} {at : ℕ} (n : ℕ) → length b < at + n → Laid b at (replicate n 0) b at
 zeros_out n h =

@@ -2,25 +2,18 @@
 ghost use Rattle.std.specs.Prelude.{◌≡◌, [], ◌∷◌, ◌<◌};
 ghost use Rattle.octets.specs.Word.{value, caseless};
 
-// An octet as a number that can be added to others.
-fn wide(x: u8) -> u64
-    ensures { (result ≡ x) × (result < 256) }
-{
-    x as u64
-}
-
 // Four octets as a number.
 pub fn four(a: u8, b: u8, c: u8, d: u8) -> u64
     ensures { (result ≡ value (a ∷ b ∷ c ∷ d ∷ [])) × (result < 4294967296) }
 {
-    wide(a) + wide(b) * 256 + wide(c) * 65536 + wide(d) * 16777216
+    u64::from(u32::from_le_bytes([a, b, c, d]))
 }
 
 // Eight octets as a number.
 pub fn eight(a: u8, b: u8, c: u8, d: u8, e: u8, f: u8, g: u8, h: u8) -> u64
     ensures { result ≡ value (a ∷ b ∷ c ∷ d ∷ e ∷ f ∷ g ∷ h ∷ []) }
 {
-    four(a, b, c, d) + four(e, f, g, h) * 4294967296
+    u64::from_le_bytes([a, b, c, d, e, f, g, h])
 }
 
 // The bit of weight 32 of each of eight octets.

@@ -15,7 +15,7 @@ fn digits_of(v: u64) -> Digits
     ensures { Spelled v result }
 {
     let mut octets = [0u8; 20];
-    let mut from: usize = 20;
+    let mut from = octets.len();
     let mut rest = v;
     while 10 <= rest {
         from -= 1;
@@ -24,10 +24,7 @@ fn digits_of(v: u64) -> Digits
     }
     from -= 1;
     octets[from] = crate::character(rest as u8);
-    Digits {
-        octets: octets,
-        from: from,
-    }
+    Digits { octets, from }
 }
 
 // A number in decimal digits.
@@ -35,7 +32,5 @@ pub fn put_decimal(buf: &mut [u8], at: usize, v: u64) -> usize
     ensures { Laid buf.old at (decimal v) buf.new result }
 {
     let d = digits_of(v);
-    let o = d.octets;
-    let from = d.from;
-    octets::write::put_octets(buf, at, &o[from..])
+    octets::write::put_octets(buf, at, &d.octets[d.from..])
 }

@@ -8,15 +8,11 @@ fn spell(buf: &mut [u8], at: usize, src: &[u8]) -> usize
     requires { at + 2 * length src.now ≤ length buf.old }
     ensures { Wrote buf.old at (hex src.now) buf.new result }
 {
-    let n = src.len();
-    let mut i: usize = 0;
-    while i < n {
-        let x = src[i];
+    for (i, x) in src.iter().enumerate() {
         buf[at + 2 * i] = crate::character(x / 16);
         buf[at + 2 * i + 1] = crate::character(x % 16);
-        i += 1;
     }
-    at + 2 * n
+    at + 2 * src.len()
 }
 
 // Octets in hexadecimal digits.

@@ -15,5 +15,8 @@ pub(crate) fn character(d: u8) -> u8
     requires { d < 16 }
     ensures { result ≡ digit d }
 {
-    if d < 10 { 48 + d } else { 87 + d }
+    match d {
+        0..10 => b'0' + d,
+        _ => b'a' + (d - 10),
+    }
 }

@@ -4,4 +4,4 @@ use Rattle.octets.proofs.word.eight.Goals as goal
 
 pub returns : goal.returns
 unfolding value
-returns c = omega (arith, c.four.ensures.0, c.four-2.ensures.0)
+returns c = omega (arith, c.from_le_bytes.ensures)

@@ -4,4 +4,4 @@ use Rattle.octets.proofs.word.four.Goals as goal
 
 pub returns : goal.returns
 unfolding value
-returns c = (omega arith, omega arith)
+returns c = (omega (arith, c.from_le_bytes.ensures, c.from.ensures), omega (arith, c.from_le_bytes.ensures, c.from.ensures))

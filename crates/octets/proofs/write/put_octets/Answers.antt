@@ -1,12 +1,8 @@
-use Rattle.std.proofs.Common.{arith}
-use Rattle.octets.proofs.WriteLaws.{laid_in, laid_out}
+use Rattle.octets.proofs.WriteLaws.{laid_out, laid_over}
 use Rattle.octets.proofs.write.put_octets.Goals as goal
 
-pub returns-then-buf-at : goal.returns-then-buf-at
-returns-then-buf-at c = laid_out _ (omega arith)
-
-pub returns-then-buf-at-2 : goal.returns-then-buf-at-2
-returns-then-buf-at-2 c = laid_out _ (omega arith)
+pub returns-in_default : goal.returns-in_default
+returns-in_default c = laid_out _ c.in_default.ensures
 
 pub returns : goal.returns
-returns c = laid_in c.copy.ensures
+returns c = laid_over _ _ _ _ _ c.copy_from_slice.ensures.after c.in-Some.ensures.0 c.in-Some.ensures.1

@@ -1,4 +1,4 @@
-use Rattle.std.proofs.Common.{◌-◌, length, ◌≤◌, ◌≡◌, take}
+use Rattle.std.proofs.Common.{length, ◌≤◌, ◌≡◌, take}
 use Rattle.octets.specs.Write.{put}
 use Rattle.text.specs.Text.{hex}
 use Rattle.text.proofs.hex.spell.Given as goal
@@ -9,6 +9,3 @@ invariant-loop-i l = record {
   size : length l.buf ≡ length l.fn.buf;
   spelled : l.buf ≡ put l.fn.buf l.at (hex (take l.i l.src));
 }
-
-abbrev pub decreases-loop-i : goal.decreases-loop-i
-decreases-loop-i l = l.n - l.i
