@@ -1,13 +1,14 @@
 -- The laws of an address more and an address less, in an array with a count: what the struct comes to, and its list. Assumes nothing.
-use mathlib.Core.Path.{◌≡◌, refl, sym, ◌∙◌, ap}
+use mathlib.Core.Path.{◌≡◌, refl, sym, ◌∙◌, ap, subst}
 use mathlib.Core.Bool.{Bool, true, false, cond}
 use mathlib.Core.List.{List, [], ◌∷◌, ◌++◌, map, map-append, append_assoc, append-nil}
 use Prim.Native.Nat.{ℕ, ◌+◌, ◌≤◌, ◌<◌}
 use native.Mathlib.Numerals.{add-one}
 use native.Mathlib.Omega.{arith}
-use lib.ListN.{length, get_or, set, take, drop, length-set, take-append-drop}
-use lib.Seq.{length-take-le, take-suc-set, drop-set-lt, drop-drop}
+use lib.ListN.{length, get_or, set, take, drop, length-set, length-take, take-append-drop}
+use lib.Seq.{get_or-take, length-take-le, take-suc-set, drop-set-lt, drop-drop}
 use borrow.Author.Tests.{lt-ltb, le-ltb}
+use borrow.Table.Steps.{cases}
 use Rattle.octets.specs.Compare.{same_octets}
 use Rattle.octets.specs.Count.{Octets, member, without}
 use Rattle.addresses.specs.Addresses.{Counted, held, listed, added, Added, others, in_front, removed, Removed}
@@ -42,6 +43,20 @@ module _ {A : Type 0} (f : A → Octets) (a : A) (s : Counted A) where
           list_is = more h ∙ sym (joined_new (f a) (listed f s) m (omega (arith, count_length f s four)));
           stays_few = λ k. omega arith;
         }
+
+-- the same of a struct that a set comes to by two writes: of the address, and of the count
+module _ {A : Type 0} (f : A → Octets) (a : A) (s : Counted A) (n : ℕ) (four : Four s) (held_n : n ≡ length (held s)) where
+  pub join_full : n ≡ 4 → Added f a s s
+  join_full h =
+      let few : 4 ≤ s.count = omega (arith, length-take s.count s.items) in
+      cases (member (f a) (listed f s)) (λ m. added_there f a s m) (λ m. added_full f a s four m few)
+
+  pub join_new : (t r : Counted A) → member (f a) (listed f s) ≡ false → ¬ (n ≡ 4) → t ≡ record { items = set s.items n a; count = s.count } → r ≡ record { items = t.items; count = n + 1 } → Added f a s r
+  join_new t r m h e k =
+      let few : s.count < 4 = omega (arith, length-take s.count s.items) in
+      let c : n ≡ s.count = omega (arith, length-take s.count s.items) in
+      let whole : record { items = set s.items s.count a; count = s.count + 1 } ≡ r = sym (k ∙ (λ i. record { items = (e i).items; count = n + 1 }) ∙ (λ i. record { items = set s.items (c i) a; count = c i + 1 })) in
+      subst (Added f a s) whole (added_new f a s four m few)
 
 -- ---- an address less
 
@@ -109,3 +124,22 @@ removing_end {A} {f} a {s} {n} {items} {i} {j} l h =
       list_is = ap (map f) e ∙ others_list f (f a) (held s);
       is_few = omega arith;
     }
+
+-- the same of a loop over the addresses themselves, in a struct that is written to place by place: x is the address at place i
+module _ {A : Type 0} {f : A → Octets} {a : Octets} {s : Counted A} {n i j : ℕ} (t u : Counted A) (k : ℕ) (x : A) (h : i < n) (at : x ≡ get_or (held s) i x) (l : Removing f a s n t.items i j) where
+  place : get_or s.items i x ≡ x
+  place = let p = l.places in sym (at ∙ get_or-take s.count s.items i x (omega arith))
+
+  pub parting_skip : u ≡ t → k ≡ j → same_octets (f x) a ≡ true → Removing f a s n u.items (i + 1) k
+  parting_skip e m q =
+      let go : Removing f a s n t.items (i + 1) j = removing_skip l x h (ap (λ (y : A). same_octets (f y) a) place ∙ q) in
+      subst (λ (y : ℕ). Removing f a s n u.items (i + 1) y) (sym m) (subst (λ (v : Counted A). Removing f a s n v.items (i + 1) j) (sym e) go)
+
+  pub parting_keep : u ≡ record { items = set t.items j x; count = t.count } → k ≡ j + 1 → same_octets (f x) a ≡ false → Removing f a s n u.items (i + 1) k
+  parting_keep e m q =
+      let go : Removing f a s n (set t.items j (get_or s.items i x)) (i + 1) (j + 1) = removing_keep l x h (ap (λ (y : A). same_octets (f y) a) place ∙ q) in
+      let w : u.items ≡ set t.items j (get_or s.items i x) = ap (λ (v : Counted A). v.items) e ∙ ap (λ (y : A). set t.items j y) (sym place) in
+      subst (λ (y : ℕ). Removing f a s n u.items (i + 1) y) (sym m) (subst (λ (v : List A). Removing f a s n v (i + 1) (j + 1)) (sym w) go)
+
+pub parting_end : {A : Type 0} {f : A → Octets} (a : A) {s : Counted A} (t r : Counted A) {n i j : ℕ} → Removing f (f a) s n t.items i j → n ≤ i → r ≡ record { items = t.items; count = j } → Removed f a s r
+parting_end {f = f} a {s = s} t r l h e = subst (Removed f a s) (sym e) (removing_end a l h)

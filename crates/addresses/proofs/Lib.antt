@@ -2,3 +2,4 @@
 pub mod CountedLaws
 pub mod ChangeLaws
 pub mod SetLaws
+pub mod ListLaws

@@ -3,6 +3,7 @@
 
 #![tactic(auto)]
 
-mod count;
+pub mod family;
+pub mod set;
 pub mod set4;
 pub mod set6;
