@@ -1,20 +1,33 @@
 // The addresses of family 6.
-ghost use Rattle.addresses.specs.Addresses.{octets6, counted6};
+ghost use Rattle.addresses.specs.Addresses.{octets6, counted6, empty_set6};
+ghost use Rattle.std.specs.Prelude.{◌≡◌};
 
 use crate::family::{Addr, Set};
 
 #[repr(C)]
-#[derive(Clone, Copy, PartialEq, Eq, Default)]
+#[derive(Clone, Copy, PartialEq, Eq)]
 pub struct Addr6 {
     pub octets: [u8; 16],
 }
 
 // Items from `count` on are ignored.
 #[repr(C)]
-#[derive(Clone, Copy, Default)]
+#[derive(Clone, Copy)]
 pub struct Set6 {
     pub items: [Addr6; 4],
     pub count: u8,
+}
+
+// The set of no addresses: zeros in all places.
+impl Default for Set6 {
+    ghost is_default = { λ s. s ≡ empty_set6 };
+
+    fn default() -> Set6 {
+        Set6 {
+            items: [Addr6 { octets: [0; 16] }; 4],
+            count: 0,
+        }
+    }
 }
 
 impl Addr for Addr6 {

@@ -6,9 +6,9 @@ ghost use Rattle.zone.specs.Survey.{records_of};
 ghost use Rattle.lentzone.specs.Decode.{addr4, addr6, set4_in, set6_in, entry_in};
 
 use crate::layout::{DHCID, NAME, NAME_LENGTH, PLACE_SIZE, SET4, SET6};
+use addresses::set;
 use addresses::set4::{Addr4, Set4};
 use addresses::set6::{Addr6, Set6};
-use addresses::{set4, set6};
 use dname::name::Name;
 use octets::write;
 use zone::entry::{Dhcid, Entry, Records};
@@ -124,7 +124,7 @@ fn is_sound4_in(s: &[u8]) -> bool
         return true;
     }
     let v4 = set4_in(s);
-    set4::is_sound4(v4)
+    set::is_sound(&v4)
 }
 
 fn is_sound6_in(s: &[u8]) -> bool
@@ -135,7 +135,7 @@ fn is_sound6_in(s: &[u8]) -> bool
         return true;
     }
     let v6 = set6_in(s);
-    set6::is_sound6(v6)
+    set::is_sound(&v6)
 }
 
 // Whether the address sets of a place have their form.

@@ -1,9 +1,11 @@
 -- The laws of a walk over the places of a zone. Assumes nothing.
-use Rattle.std.proofs.Common.{◌≡◌, ℕ, zero, suc, ◌+◌, ◌<◌, ◌≤◌, Bool, true, false, cond, not, ◌&&◌, ltb, leb, List, [], ◌∷◌, ◌++◌, map, length, get_or, take, drop, set, sym, refl, ap, ◌∙◌, true≢false, append_assoc, append-nil, add-zero, add-one, arith, drop_of_length-le, drop-cons, take-suc-set, ltb-true, lt-ltb}
+use Rattle.std.proofs.Common.{◌≡◌, ℕ, zero, suc, ◌+◌, ◌<◌, ◌≤◌, Bool, true, false, cond, not, ◌&&◌, ◌||◌, ltb, leb, List, [], ◌∷◌, ◌++◌, map, length, get_or, take, drop, set, sym, refl, ap, ◌∙◌, true≢false, append_assoc, append-nil, add-zero, add-one, arith, drop_of_length-le, drop-cons, take-suc-set, ltb-true, lt-ltb}
+use Rattle.std.specs.List.{list_any}
 use lib.ListN.{length-map}
 use lib.Seq.{take-set-le}
 use Rattle.dname.specs.Name.{key, same_name, name_of, is_full}
 use Rattle.dname.proofs.NameLaws.{same_name_key, key_same_name}
+use Rattle.octets.specs.Compare.{same_octets}
 use Rattle.octets.specs.Count.{Octets, member, distinct}
 use Rattle.octets.proofs.CountLaws.{one, member_here, member_on}
 use Rattle.addresses.specs.Addresses.{list4, list6, sound}
@@ -175,3 +177,31 @@ module _ (es : List Entry) (i : ℕ) (h : length es ≤ i) where
   pub distinct_end : distinct (keys (drop i es)) ≡ true
   unfolding distinct
   distinct_end = rw keys_end
+
+-- the same of the places themselves, looked at one by one
+pub any_named : (n : Octets) (es : List Entry) → list_any (named n) es ≡ member (key n) (keys es)
+unfolding named keys member same_name
+any_named n [] = refl
+any_named n (e ∷ es) = go (used e) (any_named n es)
+  where
+    go : (b : Bool) → list_any (named n) es ≡ member (key n) (keys es)
+        → ((b && same_octets (key_of e) (key n)) || list_any (named n) es) ≡ member (key n) (cond b (key_of e ∷ keys es) (keys es))
+    go true h = ap (λ (v : Bool). same_octets (key_of e) (key n) || v) h
+    go false h = h
+
+module _ (all rest : List Entry) (so_far : distinct (keys all) ≡ distinct (keys rest)) where
+  module _ (e : Entry) (behind : List Entry) (is : rest ≡ e ∷ behind) where
+    first : distinct (keys all) ≡ distinct (keys (e ∷ behind))
+    first = so_far ∙ ap (λ (m : List Entry). distinct (keys m)) is
+
+    pub pair_found : used e ≡ true → member (key_of e) (keys behind) ≡ true → false ≡ distinct (keys all)
+    pair_found u m = sym (first ∙ distinct_twice (e ∷ behind) e 0 (omega arith) u m)
+
+    pub pair_not : used e ≡ true → member (key_of e) (keys behind) ≡ false → distinct (keys all) ≡ distinct (keys behind)
+    pair_not u m = first ∙ distinct_once (e ∷ behind) e 0 (omega arith) u m
+
+    pub pair_free : used e ≡ false → distinct (keys all) ≡ distinct (keys behind)
+    pair_free u = first ∙ distinct_free (e ∷ behind) e 0 (omega arith) u
+
+  pub pair_end : length rest ≡ 0 → true ≡ distinct (keys all)
+  pair_end h = sym (so_far ∙ distinct_end rest 0 (omega arith))

@@ -5,9 +5,9 @@ ghost use Rattle.dname.specs.Name.{name_of};
 ghost use Rattle.zone.specs.Survey.{named};
 
 use crate::name;
+use addresses::set;
 use addresses::set4::Set4;
 use addresses::set6::Set6;
-use addresses::{set4, set6};
 use dname::name::Name;
 
 #[repr(C)]
@@ -45,13 +45,10 @@ pub struct Records {
 }
 
 // Whether the address sets of a place have their form.
-pub(crate) fn are_sets_sound(v4: Set4, v6: Set6) -> bool
-    ensures { result ≡ sound_sets v4 v6 }
+pub(crate) fn are_sets_sound(v4: &Set4, v6: &Set6) -> bool
+    ensures { result ≡ sound_sets v4.now v6.now }
 {
-    if !set4::is_sound4(v4) {
-        return false;
-    }
-    set6::is_sound6(v6)
+    set::is_sound(v4) && set::is_sound(v6)
 }
 
 // Whether a used place is in order: its kind, whether its name is full, and whether its sets have
@@ -59,21 +56,12 @@ pub(crate) fn are_sets_sound(v4: Set4, v6: Set6) -> bool
 pub fn is_in_order(kind: u8, full: bool, sets: bool) -> bool
     ensures { result ≡ (nat_le kind 2 && (full && sets)) }
 {
-    if kind > 2 {
-        return false;
-    }
-    if !full {
-        return false;
-    }
-    sets
+    kind <= 2 && full && sets
 }
 
 // Whether the name stands there.
-pub(crate) fn is_named(e: Entry, n: Name) -> bool
-    ensures { result ≡ named (name_of n) e }
+pub(crate) fn is_named(e: &Entry, n: &Name) -> bool
+    ensures { result ≡ named (name_of n.now) e.now }
 {
-    if e.kind == 0 {
-        return false;
-    }
-    name::same(&e.name.octets, e.name.len, &n.octets, n.len)
+    e.kind != 0 && dname::same_name(name::octets(&e.name), name::octets(n))
 }

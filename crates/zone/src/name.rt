@@ -1,35 +1,29 @@
-// Names as the walk over a zone compares them: lent as octets beside a length, since a name by value
-// would be copied at each call.
-ghost use Rattle.std.specs.Prelude.{◌≡◌, length, take};
-ghost use Rattle.dname.specs.Name.{same_name};
+// Names as the walk over a zone compares them: lent, since a name by value would be copied at each call.
+ghost use Rattle.std.specs.Prelude.{◌≡◌};
+ghost use Rattle.dname.specs.Name.{name_of, same_name};
 ghost use Rattle.zone.specs.Survey.{fingerprint_of};
 
-// Whether two names are equal.
-pub(crate) fn same(o: &[u8], n: u8, p: &[u8], m: u8) -> bool
-    requires { (length o.now ≡ 255) × (length p.now ≡ 255) }
-    ensures { result ≡ same_name (take n o.now) (take m p.now) }
+use crate::fingerprint;
+use dname::name::Name;
+
+// The octets that count.
+pub(crate) fn octets(n: &Name) -> &[u8]
+    ensures { result.now ≡ name_of n.now }
 {
-    let a = n as usize;
-    let b = m as usize;
-    dname::same_name(&o[..a], &p[..b])
+    &n.octets[..n.len as usize]
 }
 
 // The fingerprint of a name.
-pub(crate) fn fingerprint(o: &[u8], len: u8) -> u32
-    requires { length o.now ≡ 255 }
-    ensures { result ≡ fingerprint_of (take len o.now) }
+pub(crate) fn fingerprint_of(n: &Name) -> u32
+    ensures { result ≡ fingerprint_of (name_of n.now) }
 {
-    let n = len as usize;
-    crate::fingerprint::fingerprint(&o[..n])
+    fingerprint::fingerprint(octets(n))
 }
 
 // Whether two names are equal; they are compared only where their fingerprints are equal.
-pub(crate) fn is_same(own: u32, o: &[u8], n: u8, fingerprint: u32, p: &[u8], m: u8) -> bool
-    requires { (length o.now ≡ 255) × (length p.now ≡ 255) × (own ≡ fingerprint_of (take n o.now)) × (fingerprint ≡ fingerprint_of (take m p.now)) }
-    ensures { result ≡ same_name (take n o.now) (take m p.now) }
+pub(crate) fn is_same(own: u32, a: &Name, fingerprint: u32, b: &Name) -> bool
+    requires { (own ≡ fingerprint_of (name_of a.now)) × (fingerprint ≡ fingerprint_of (name_of b.now)) }
+    ensures { result ≡ same_name (name_of a.now) (name_of b.now) }
 {
-    if own != fingerprint {
-        return false;
-    }
-    same(o, n, p, m)
+    own == fingerprint && dname::same_name(octets(a), octets(b))
 }

@@ -38,36 +38,23 @@ pub fn choose(b: bool, x: usize, y: usize) -> usize
     if b { x } else { y }
 }
 
-// Whether the name stands at a place or behind it.
-fn named_from(z: Zone, n: Name, from: usize) -> bool
-    requires { from ≤ 64 }
-    ensures { result ≡ member (key (name_of n)) (keys (drop from z.entries)) }
+// Whether the name stands at one of the places.
+fn is_among(places: &[Entry], n: &Name) -> bool
+    ensures { result ≡ member (key (name_of n.now)) (keys places.now) }
 {
-    let mut i = from;
-    while i < 64 {
-        let e = z.entries[i];
-        if entry::is_named(e, n) {
-            return true;
-        }
-        i += 1;
-    }
-    false
+    places.iter().any(|e| entry::is_named(e, n))
 }
 
 // Whether no two names are equal, name by name.
-fn distinct_names(z: Zone) -> bool
-    ensures { result ≡ distinct (keys z.entries) }
+fn distinct_names(places: &[Entry]) -> bool
+    ensures { result ≡ distinct (keys places.now) }
 {
-    let mut i: usize = 0;
-    while i < 64 {
-        let e = z.entries[i];
-        i += 1;
-        if e.kind != 0 {
-            let n = e.name;
-            if named_from(z, n, i) {
-                return false;
-            }
+    let mut rest = places;
+    while let Some((e, behind)) = rest.split_first() {
+        if e.kind != 0 && is_among(behind, &e.name) {
+            return false;
         }
+        rest = behind;
     }
     true
 }
@@ -77,51 +64,38 @@ fn distinct_names(z: Zone) -> bool
 pub fn survey_of(z: Zone, n: Name) -> Visit
     ensures { Visited z (name_of n) result }
 {
-    let fingerprint = name::fingerprint(&n.octets, n.len);
+    let places = &z.entries;
+    let fingerprint = name::fingerprint_of(&n);
     let mut fingerprints = [0u32; 64];
     let mut used: usize = 0;
     let mut inorder = true;
     let mut found: usize = 64;
     let mut free: usize = 64;
-    let mut i: usize = 0;
-    while i < 64 {
-        let kind = z.entries[i].kind;
-        if kind == 0 {
+    for (i, e) in places.iter().enumerate() {
+        if e.kind == 0 {
             free = i;
-            i += 1;
-        } else {
-            let e = z.entries[i];
-            let own = name::fingerprint(&e.name.octets, e.name.len);
-            fingerprints[used] = own;
-            used += 1;
-            let full = dname::name::are_full(&e.name.octets, e.name.len);
-            let sets = entry::are_sets_sound(e.v4, e.v6);
-            let fine = entry::is_in_order(kind, full, sets);
-            inorder = both(inorder, fine);
-            let named = name::is_same(
-                own,
-                &e.name.octets,
-                e.name.len,
-                fingerprint,
-                &n.octets,
-                n.len,
-            );
-            found = choose(named, i, found);
-            i += 1;
+            continue;
         }
+        let own = name::fingerprint_of(&e.name);
+        fingerprints[used] = own;
+        used += 1;
+        let full = dname::name::is_full_name(name::octets(&e.name));
+        let sets = entry::are_sets_sound(&e.v4, &e.v6);
+        let fine = entry::is_in_order(e.kind, full, sets);
+        inorder = both(inorder, fine);
+        let named = name::is_same(own, &e.name, fingerprint, &n);
+        found = choose(named, i, found);
     }
     let repeats = fingerprint::repeats(&fingerprints[..used]);
-    let mut distinct = true;
-    if repeats {
-        distinct = distinct_names(z);
-    }
+    let distinct = !repeats || distinct_names(places);
     let at = choose(found < 64, found, 0);
-    let e = z.entries[at];
-    let survey = Survey {
-        inorder,
-        distinct,
-        found,
-        free,
-    };
-    Visit { survey, entry: e }
+    Visit {
+        survey: Survey {
+            inorder,
+            distinct,
+            found,
+            free,
+        },
+        entry: places[at],
+    }
 }

@@ -1,4 +1,4 @@
-use Rattle.std.proofs.Common.{sym, ◌∙◌, ap, length, rules}
+use Rattle.std.proofs.Common.{sym, ◌∙◌, ap, length}
 use Rattle.addresses.proofs.ChangeLaws.{added_there, join_full, join_new}
 use Rattle.addresses.proofs.set.join.Goals as goal
 use Rattle.addresses.proofs.set.join.Goals.{then-n-eq4-via-then-n-eq4, then-n-eq4-via-else-n-eq4+then-has}
@@ -7,8 +7,8 @@ pub returns-then-n-eq4 : goal.returns-then-n-eq4
 returns-then-n-eq4 g c =
     let e = c.held-n.ensures in
     elim c.then-n-eq4.branch [
-      then-n-eq4-via-then-n-eq4 w ↦ join_full g.S.Addr.Addr.octets_of _ _ _ e.four (ap length e.list) w.if-n-eq4.true
-    | then-n-eq4-via-else-n-eq4+then-has w ↦ added_there g.S.Addr.Addr.octets_of _ _ (sym w.has.ensures ∙ w.if-has.true)
+      | then-n-eq4-via-then-n-eq4 w ↦ join_full g.S.Addr.Addr.octets_of _ _ _ e.four (ap length e.list) w.if-n-eq4.true
+      | then-n-eq4-via-else-n-eq4+then-has w ↦ added_there g.S.Addr.Addr.octets_of _ _ (sym w.has.ensures ∙ w.if-has.true)
     ]
 
 pub returns : goal.returns

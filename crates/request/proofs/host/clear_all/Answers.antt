@@ -5,6 +5,8 @@ use Rattle.request.proofs.host.clear_all.Goals as goal
 
 pub returns : goal.returns
 returns c =
-    let a = of_empty4 c.empty_set4-none4.ensures in
-    let b = of_empty6 c.empty_set6-none6.ensures in
+    let p = c.default.ensures in
+    let q = c.default-2.ensures in
+    let a = of_empty4 p in
+    let b = of_empty6 q in
     record { makes = λ n o. kept_empty (place_of n c.args.e) _ _ o a.0 a.1 b.0 b.1 }

@@ -10,17 +10,19 @@ use Rattle.request.proofs.host.clear_family.Goals as goal
 pub returns-then-family-eq4 : goal.returns-then-family-eq4
 returns-then-family-eq4 c =
     let s = c.args in
-    let w = of_empty4 c.empty_set4-none.ensures in
+    let e = c.default.ensures in
+    let w = of_empty4 e in
     record {
-      makes = λ n o. kept_to (kept4 (place_of n s.e) o c.empty_set4-none.result nothing (sound_nothing _ _ w.1 w.0) (set_nothing _ w.0))
+      makes = λ n o. kept_to (kept4 (place_of n s.e) o c.default.result nothing (sound_nothing _ _ w.1 w.0) (set_nothing _ w.0))
           (ap (λ (f : Family). with f nothing (host_of (place_of n s.e))) (sym (family_four s.family c.if-family-eq4.true)));
     }
 
-pub returns : goal.returns
-returns c =
+pub returns-else-family-eq4 : goal.returns-else-family-eq4
+returns-else-family-eq4 c =
     let s = c.args in
-    let w = of_empty6 c.empty_set6-none.ensures in
+    let e = c.default-else-family-eq4.ensures in
+    let w = of_empty6 e in
     record {
-      makes = λ n o. kept_to (kept6 (place_of n s.e) o c.empty_set6-none.result nothing (sound_nothing _ _ w.1 w.0) (set_nothing _ w.0))
+      makes = λ n o. kept_to (kept6 (place_of n s.e) o c.default-else-family-eq4.result nothing (sound_nothing _ _ w.1 w.0) (set_nothing _ w.0))
           (ap (λ (f : Family). with f nothing (host_of (place_of n s.e))) (sym (family_six s.family c.if-family-eq4.false)));
     }

@@ -6,8 +6,8 @@ use Rattle.request.proofs.host.has_address.Goals as goal
 
 pub returns-then-family-eq4 : goal.returns-then-family-eq4
 returns-then-family-eq4 c =
-    record { has_is = λ n u b. c.has4.ensures ∙ sym (has_by (place_of n c.args.e) u four _ (means4 b c.if-family-eq4.true c.addr4-x.ensures)) }
+    record { has_is = λ n u b. c.has.ensures ∙ sym (has_by (place_of n c.args.e) u four _ (means4 b c.if-family-eq4.true c.addr4.ensures)) }
 
-pub returns : goal.returns
-returns c =
-    record { has_is = λ n u b. c.has6.ensures ∙ sym (has_by (place_of n c.args.e) u six _ (means6 b c.if-family-eq4.false c.addr6-x.ensures)) }
+pub returns-else-family-eq4 : goal.returns-else-family-eq4
+returns-else-family-eq4 c =
+    record { has_is = λ n u b. c.has-else-family-eq4.ensures ∙ sym (has_by (place_of n c.args.e) u six _ (means6 b c.if-family-eq4.false c.addr6.ensures)) }

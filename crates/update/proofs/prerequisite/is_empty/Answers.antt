@@ -4,11 +4,10 @@ use Rattle.update.specs.Rules.{empty}
 use Rattle.update.specs.Meaning.{host_of}
 use Rattle.update.proofs.prerequisite.is_empty.Goals as goal
 
-pub returns-then-not-is_empty4 : goal.returns-then-not-is_empty4
+pub returns-then-is_empty : goal.returns-then-is_empty
 unfolding empty host_of
-returns-then-not-is_empty4 c = λ n. ap (λ (b : Bool). b && eqb (length (list6 c.args.e.v6)) 0) c.if-not-is_empty4.ensures
+returns-then-is_empty c = λ n. c.is_empty-then-is_empty.ensures ∙ ap (λ (b : Bool). b && eqb (length (list6 c.args.e.v6)) 0) c.if-is_empty.ensures
 
-pub returns : goal.returns
+pub returns-else-is_empty : goal.returns-else-is_empty
 unfolding empty host_of
-returns c =
-    λ n. c.is_empty6.ensures ∙ ap (λ (b : Bool). b && eqb (length (list6 c.args.e.v6)) 0) c.if-not-is_empty4.ensures
+returns-else-is_empty c = λ n. c.if-is_empty.false ∙ ap (λ (b : Bool). b && eqb (length (list6 c.args.e.v6)) 0) c.if-is_empty.ensures

@@ -3,10 +3,10 @@ use Rattle.zone.specs.Meaning.{used}
 use Rattle.zone.specs.Survey.{named}
 use Rattle.zone.proofs.entry.is_named.Goals as goal
 
-pub returns-then-e-eq0 : goal.returns-then-e-eq0
+pub returns-then-e-ne0 : goal.returns-then-e-ne0
 unfolding used named
-returns-then-e-eq0 c = simp (eq-eqb _ _ c.if-e-eq0.true)
+returns-then-e-ne0 c = simp (ne_eqb _ _ c.if-e-ne0.true) (rw (c.same_name.ensures, c.octets.ensures, c.octets-then-e-ne0.ensures))
 
-pub returns : goal.returns
+pub returns-else-e-ne0 : goal.returns-else-e-ne0
 unfolding used named
-returns c = simp (ne_eqb _ _ c.if-e-eq0.false) c.same.ensures
+returns-else-e-ne0 c = simp (eq-eqb _ _ c.if-e-ne0.false)

@@ -1,29 +1,20 @@
-use Rattle.std.proofs.Common.{not, sym, ap, ◌∙◌, arith, eq-eqb, ne_eqb}
+use Rattle.std.proofs.Common.{not, sym, ap, ◌∙◌, rules, eq-eqb, ne_eqb}
 use Rattle.zone.specs.Meaning.{used}
-use Rattle.zone.proofs.SurveyLaws.{blank, distinct_free, distinct_twice, distinct_once, distinct_end}
+use Rattle.zone.proofs.SurveyLaws.{pair_found, pair_not, pair_free, pair_end}
 use Rattle.zone.proofs.survey.distinct_names.Goals as goal
+use Rattle.zone.proofs.survey.distinct_names.Goals.{else-e-ne0-via-then-e-ne0+else-is_among, else-e-ne0-via-else-e-ne0}
 
-pub returns-then-named_from : goal.returns-then-named_from
+pub returns-then-is_among : goal.returns-then-is_among
 unfolding used
-returns-then-named_from c =
-    let l = c.loop-i in
-    let k = ap not (ne_eqb _ _ c.if-e-ne0.true) in
-    sym (l.invariant.2 ∙ distinct_twice c.args.z.entries blank l.i (omega arith) k (sym c.named_from.ensures ∙ c.if-named_from.true))
+returns-then-is_among c = pair_found _ _ c.loop-e.invariant c.in-Some.e.now c.in-Some.behind.now (search rules) (ap not (ne_eqb _ _ c.if-e-ne0.true)) (sym c.is_among.ensures ∙ c.if-is_among.true)
 
-pub loop-i-preserved-else-named_from : goal.loop-i-preserved-else-named_from
+pub loop-e-preserved : goal.loop-e-preserved
 unfolding used
-loop-i-preserved-else-named_from c =
-    let l = c.loop-i in
-    let k = ap not (ne_eqb _ _ c.if-e-ne0.true) in
-    (omega arith, l.invariant.1, l.invariant.2 ∙ distinct_once c.args.z.entries blank l.i (omega arith) k (sym c.named_from.ensures ∙ c.if-named_from.false))
-
-pub loop-i-preserved : goal.loop-i-preserved
-unfolding used
-loop-i-preserved c =
-    let l = c.loop-i in
-    (omega arith, l.invariant.1, l.invariant.2 ∙ distinct_free c.args.z.entries blank l.i (omega arith) (ap not (eq-eqb _ _ c.if-e-ne0.false)))
+loop-e-preserved c =
+    elim c.else-e-ne0.branch [
+      | else-e-ne0-via-then-e-ne0+else-is_among w ↦ pair_not _ _ c.loop-e.invariant c.in-Some.e.now c.in-Some.behind.now (search rules) (ap not (ne_eqb _ _ w.if-e-ne0.true)) (sym w.is_among.ensures ∙ w.if-is_among.false)
+      | else-e-ne0-via-else-e-ne0 w ↦ pair_free _ _ c.loop-e.invariant c.in-Some.e.now c.in-Some.behind.now (search rules) (ap not (eq-eqb _ _ w.if-e-ne0.false))
+    ]
 
 pub returns : goal.returns
-returns c =
-    let l = c.loop-i in
-    sym (l.invariant.2 ∙ distinct_end c.args.z.entries l.i (omega arith))
+returns c = pair_end _ _ c.loop-e.invariant c.in_default.ensures.cases
