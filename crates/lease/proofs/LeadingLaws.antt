@@ -1,68 +1,19 @@
 -- The laws of octets as one number. Assumes nothing.
 use mathlib.Core.Path.{◌≡◌, refl, sym, ap, subst, ◌∙◌}
-use mathlib.Core.Bool.{Bool, true, false, ◌&&◌}
+use mathlib.Core.Bool.{true, false}
 use mathlib.Core.List.{List, [], ◌∷◌}
 use Prim.Native.Nat.{ℕ, zero, suc, ◌+◌, ◌*◌, ◌-◌, ◌^◌, ◌/◌, ◌%◌, ◌≤◌, ◌<◌}
 use native.Mathlib.Nat.{add-mul-mod_self_left, mul_assoc, mul_comm, add-mul, pow-suc, one-le-pow, mul-lt-mul_of_pos_right, mod-eq_of_lt, mul-div_cancel}
 use native.Mathlib.Omega.{arith}
 use lib.Dec.{eqb, ltb}
-use lib.ListN.{length, get_or, take, drop, drop_of_length-le}
-use lib.Seq.{drop-cons, take-take}
-use mir.Val.{Val}
-use mir.Syntax.{w8}
-use denote.Laws.{Is}
-use denote.Array.{Array}
-use denote.Plain.{UInt}
-use borrow.Author.Rules.{elem_Fits}
+use lib.ListN.{length, get_or, take, drop}
+use lib.Seq.{take-take}
 use borrow.Table.Steps.{cases}
-use borrow.Author.Tests.{eq-eqb, ne_eqb, eqb-true, eqb-false, ltb-true, ltb-false}
+use borrow.Author.Tests.{eqb-true, ltb-true, ltb-false}
 use Rattle.octets.specs.Compare.{same_octets}
 use Rattle.octets.proofs.CompareLaws.{same_true, same_self}
-use Rattle.lease.specs.Lease.{all_zero}
 use Rattle.octets.specs.Word.{value}
 use Rattle.lease.specs.Leading.{leading}
-
--- ---- zeros
-value_zero : (l : List ℕ) → eqb (value l) 0 ≡ all_zero l
-unfolding all_zero value
-value_zero [] = refl
-value_zero (x ∷ xs) =
-    cases (eqb x 0)
-    (λ e.
-    cases (eqb (value xs) 0)
-    (λ f. let z : x + 256 * value xs ≡ 0 = omega (arith, eqb-true x 0 e, eqb-true (value xs) 0 f) in rw (e, z) (sym f ∙ value_zero xs))
-    (λ f. rw e (ne_eqb (x + 256 * value xs) 0 (λ q. eqb-false (value xs) 0 f (omega (arith, q))) ∙ sym f ∙ value_zero xs)))
-    (λ e. rw e (ne_eqb (x + 256 * value xs) 0 (λ q. eqb-false x 0 e (omega (arith, q)))))
-
-module _ (s : List ℕ) (n : length s ≡ 16) where
-  abbrev back : List ℕ
-  back = get_or s 8 0 ∷ get_or s 9 0 ∷ get_or s 10 0 ∷ get_or s 11 0 ∷ get_or s 12 0 ∷ get_or s 13 0 ∷ get_or s 14 0 ∷ get_or s 15 0 ∷ []
-
-  back_is : drop 6 s ≡ get_or s 6 0 ∷ get_or s 7 0 ∷ back
-  back_is = rw (drop-cons s 6 0 (omega arith), drop-cons s 7 0 (omega arith), drop-cons s 8 0 (omega arith), drop-cons s 9 0 (omega arith), drop-cons s 10 0 (omega arith), drop-cons s 11 0 (omega arith), drop-cons s 12 0 (omega arith), drop-cons s 13 0 (omega arith), drop-cons s 14 0 (omega arith), drop-cons s 15 0 (omega arith), drop_of_length-le s (let h : length s ≤ 16 = omega arith in h))
-
-  zeros_are : (b : Bool) → eqb (value back) 0 ≡ b → all_zero (drop 6 s) ≡ (eqb (get_or s 6 0) 0 && (eqb (get_or s 7 0) 0 && b))
-  unfolding all_zero
-  zeros_are b e = ap all_zero back_is ∙ ap (λ t. eqb (get_or s 6 0) 0 && (eqb (get_or s 7 0) 0 && t)) (sym (value_zero back) ∙ e)
-
-  pub tail_broken : (value back ≡ 0 → ⊥) → all_zero (drop 6 s) ≡ false
-  tail_broken h = zeros_are false (ne_eqb _ _ h) ∙ cases (eqb (get_or s 6 0) 0) (λ e. rw e (cases (eqb (get_or s 7 0) 0) (λ f. rw f) (λ f. rw f))) (λ e. rw e)
-
-  pub tail_of_6 : value back ≡ 0 → eqb (value (get_or s 6 0 ∷ get_or s 7 0 ∷ 0 ∷ 0 ∷ [])) 0 ≡ all_zero (drop 6 s)
-  unfolding all_zero
-  tail_of_6 h = value_zero (get_or s 6 0 ∷ get_or s 7 0 ∷ 0 ∷ 0 ∷ []) ∙ sym (zeros_are true (eq-eqb _ _ h))
-
--- ---- the first eight octets
-pub first_eight : (s : List ℕ) → 8 ≤ length s → take 8 s ≡ get_or s 0 0 ∷ get_or s 1 0 ∷ get_or s 2 0 ∷ get_or s 3 0 ∷ get_or s 4 0 ∷ get_or s 5 0 ∷ get_or s 6 0 ∷ get_or s 7 0 ∷ []
-first_eight [] l = absurd (omega (arith, l))
-first_eight (a ∷ []) l = absurd (omega (arith, l))
-first_eight (a ∷ b ∷ []) l = absurd (omega (arith, l))
-first_eight (a ∷ b ∷ c ∷ []) l = absurd (omega (arith, l))
-first_eight (a ∷ b ∷ c ∷ d ∷ []) l = absurd (omega (arith, l))
-first_eight (a ∷ b ∷ c ∷ d ∷ e ∷ []) l = absurd (omega (arith, l))
-first_eight (a ∷ b ∷ c ∷ d ∷ e ∷ f ∷ []) l = absurd (omega (arith, l))
-first_eight (a ∷ b ∷ c ∷ d ∷ e ∷ f ∷ g ∷ []) l = absurd (omega (arith, l))
-first_eight (a ∷ b ∷ c ∷ d ∷ e ∷ f ∷ g ∷ h ∷ s) l = refl
 
 -- ---- the leading octets
 split : (n : ℕ) (l : List ℕ) → value l ≡ value (take n l) + 256 ^ n * value (drop n l)
@@ -116,10 +67,6 @@ lead_apart n a b h = cases (same_octets (take n a) (take n b)) (λ e. absurd (h 
 -- ---- the number says all of at most eight octets
 abbrev pub Octets : List ℕ → Type 0
 Octets l = (i : ℕ) → get_or l i 0 < 256
-
--- an array that a function is given
-pub array_octets : (n : ℕ) (l : List ℕ) {vs : List Val} → Is (Array (UInt w8) n) l vs → Octets l
-array_octets n l p i = (elem_Fits w8 w8 l p.0 i p.1.1 tt).fits
 
 value_below : (n : ℕ) (l : List ℕ) → Octets l → value (take n l) < 256 ^ n
 unfolding value

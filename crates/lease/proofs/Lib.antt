@@ -3,3 +3,4 @@ pub mod FormLaws
 pub mod LeadingLaws
 pub mod KeyLaws
 pub mod ListLaws
+pub mod OrderLaws

@@ -10,12 +10,8 @@ const LEASED: u8 = 1;
 
 // Whether a lease is active at a moment.
 #[tactic(auto, unfolding(crate::specs::Lease::active_at))]
-pub fn is_active(x: Lease, clock: Moment) -> bool
-    ensures { result ≡ active_at clock x }
+pub fn is_active(x: &Lease, clock: Moment) -> bool
+    ensures { result ≡ active_at clock x.now }
 {
-    if x.state != LEASED {
-        return false;
-    }
-    let expiry = x.expiry;
-    clock::is_ahead(expiry, clock)
+    x.state == LEASED && clock::is_ahead(x.expiry, clock)
 }

@@ -1,5 +1,5 @@
 // Octets as one number, by which they are compared at once.
-ghost use Rattle.std.specs.Prelude.{◌≡◌, take};
+ghost use Rattle.std.specs.Prelude.{◌≡◌, ◌≤◌, length, take};
 ghost use Rattle.octets.specs.Word.{value};
 ghost use Rattle.lease.specs.Leading.{leading};
 
@@ -10,27 +10,17 @@ use octets::word;
 fn leading_octets(n: u8, v: u64) -> u64
     ensures { result ≡ leading n v }
 {
-    if n == 0 {
-        return 0;
+    match n {
+        0 => 0,
+        1..=7 => v << (64 - 8 * n),
+        _ => v,
     }
-    if 7 < n {
-        return v;
-    }
-    let k = 64 - 8 * (n as u64);
-    v << k
 }
 
 // What the first n octets, at most eight of them, make.
-pub(crate) fn leading_of_16(n: u8, s: [u8; 16]) -> u64
-    ensures { result ≡ leading n (value (take 8 s)) }
-{
-    let v = word::eight(s[0], s[1], s[2], s[3], s[4], s[5], s[6], s[7]);
-    leading_octets(n, v)
-}
-
-// The same of 64 octets.
-pub(crate) fn leading_of_64(n: u8, s: [u8; 64]) -> u64
-    ensures { result ≡ leading n (value (take 8 s)) }
+pub(crate) fn leading_of(n: u8, s: &[u8]) -> u64
+    requires { 8 ≤ length s.now }
+    ensures { result ≡ leading n (value (take 8 s.now)) }
 {
     let v = word::eight(s[0], s[1], s[2], s[3], s[4], s[5], s[6], s[7]);
     leading_octets(n, v)

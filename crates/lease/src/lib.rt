@@ -36,7 +36,7 @@ pub struct Lease {
 
 // What a lease is ranked by. The address has eight octets, so that an array of ranks has no gaps and
 // is copied in one piece.
-#[derive(Clone, Copy)]
+#[derive(Clone, Copy, PartialEq, Eq)]
 pub struct Rank {
     pub last: Moment,
     pub address: u64,

@@ -6,6 +6,7 @@ ghost use Rattle.leasequery.specs.Promise.{LeasePromise};
 
 use clock::Moment;
 use lease::Lease;
+use leasetable::scanning::scan;
 use leasetable::{form, look};
 
 pub mod ask;
@@ -32,9 +33,7 @@ pub fn jespurla_lease_query(
 ) -> LeaseAnswer
     ensures { LeasePromise clock table.now server query.now reply.old result reply.new }
 {
-    let count = table.len();
-    let shape = form::scan(table, form::start(count));
-    let room = reply.len();
-    let found = look::look(table, ask::ask(clock, shape, query, room));
-    conclude::conclude(found, server, query, reply)
+    let shape = scan(table, form::start(table.len()));
+    let found = look::look(table, ask::ask(clock, shape, query, reply.len()));
+    conclude::conclude(&found, server, query, reply)
 }

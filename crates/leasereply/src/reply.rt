@@ -32,13 +32,12 @@ fn put_other(buf: &mut [u8], kind: u8, server: u32, query: &[u8]) -> usize
 }
 
 // The fixed fields with those of a record.
-fn put_record(buf: &mut [u8], query: &[u8], x: Lease) -> usize
+fn put_record(buf: &mut [u8], query: &[u8], x: &Lease) -> usize
     requires { 240 ≤ length query.now }
-    ensures { WroteIf buf.old 0 (fixed query.now x.htype x.hlen (big_endian 4 x.address) (take 16 x.chaddr)) buf.new result }
+    ensures { WroteIf buf.old 0 (fixed query.now x.now.htype x.now.hlen (big_endian 4 x.now.address) (take 16 x.now.chaddr)) buf.new result }
 {
     let ciaddr = number::u32_octets(x.address);
-    let chaddr = x.chaddr;
-    fixed::put_fixed(buf, query, x.htype, x.hlen, &ciaddr, &chaddr)
+    fixed::put_fixed(buf, query, x.htype, x.hlen, &ciaddr, &x.chaddr)
 }
 
 // LEASEACTIVE (13), with the addresses of the first n ranks where they are two or more.
@@ -47,12 +46,12 @@ fn put_active(
     clock: Moment,
     server: u32,
     query: &[u8],
-    x: Lease,
-    ranks: [Rank; 63],
+    x: &Lease,
+    ranks: &[Rank; 63],
     n: usize,
 ) -> usize
     requires { 240 ≤ length query.now }
-    ensures { WroteIf buf.old 0 (active_reply clock server query.now x (listed n ranks)) buf.new result }
+    ensures { WroteIf buf.old 0 (active_reply clock server query.now x.now (listed n ranks.now)) buf.new result }
 {
     let a = put_record(buf, query, x);
     let b = options::put_kind(buf, a, layout::DHCPLEASEACTIVE);
@@ -66,10 +65,7 @@ fn put_active(
 pub fn write_other(buf: &mut [u8], kind: u8, server: u32, query: &[u8]) -> usize
     ensures { Wrote query.now buf.old (other_reply kind server query.now) result buf.new }
 {
-    if query.len() < layout::OPTIONS {
-        return 0;
-    }
-    if buf.len() < ROOM {
+    if query.len() < layout::OPTIONS || buf.len() < ROOM {
         return 0;
     }
     put_other(buf, kind, server, query)
@@ -82,16 +78,13 @@ pub fn write_active(
     server: u32,
     query: &[u8],
     x: Lease,
-    ranks: [Rank; 63],
+    ranks: &[Rank; 63],
     n: usize,
 ) -> usize
-    ensures { Wrote query.now buf.old (active_reply clock server query.now x (listed n ranks)) result buf.new }
+    ensures { Wrote query.now buf.old (active_reply clock server query.now x (listed n ranks.now)) result buf.new }
 {
-    if query.len() < layout::OPTIONS {
+    if query.len() < layout::OPTIONS || buf.len() < ROOM {
         return 0;
     }
-    if buf.len() < ROOM {
-        return 0;
-    }
-    put_active(buf, clock, server, query, x, ranks, n)
+    put_active(buf, clock, server, query, &x, ranks, n)
 }

@@ -1,29 +1,19 @@
--- The laws of putting a rank in its place, at a place of the loop. Assumes nothing.
-use mathlib.Core.Path.{◌≡◌, refl, sym, ◌∙◌, ap}
+-- The laws of putting a rank in its place among others, a turn of the loop and its end. Assumes nothing.
+use mathlib.Core.Path.{◌≡◌, sym, ◌∙◌, ap}
 use mathlib.Core.Bool.{true, false}
-use mathlib.Core.Logic.{◌⊎◌, inl, inr}
-use mathlib.Core.List.{List, [], ◌∷◌, ◌++◌, append_assoc}
-use Prim.Native.Nat.{ℕ, ◌+◌, ◌≤◌, ◌<◌}
+use mathlib.Core.List.{List, [], ◌∷◌, ◌++◌, append_assoc, append-nil}
+use Prim.Native.Nat.{ℕ, suc, ◌+◌, ◌≤◌, ◌<◌}
 use native.Mathlib.Numerals.{add-one}
 use native.Mathlib.Omega.{arith}
-use lib.ListN.{length, get_or, take, drop, set, length-take, length-set, drop_of_length-le}
-use lib.Seq.{drop-cons, take-suc, take-suc-set, take-set-lt, drop-set-lt, get_or-take, take_all, take_at, set_split}
+use lib.ListN.{length, get_or, take, drop, set, length-set, length-append, length-drop, drop_of_length-le}
+use lib.Seq.{drop-cons, take-suc, take-suc-set, drop-set-lt, take_all, take_at, set-append_seam}
 use Rattle.lease.specs.declared.Rank.{Rank}
 use Rattle.lease.specs.Lease.{ranks_before}
 use Rattle.leasetable.specs.Folds.{placed_rank, inserted, no_rank}
 
--- `⊎_elim` with the sum first, so that what each case has is known where the case is proved
-pub either : {A B C : Type 0} → A ⊎ B → (A → C) → (B → C) → C
-either (inl a) f g = f a
-either (inr b) f g = g b
-
--- where the loop stands at i: the places passed, and what is left to insert into the others
-abbrev at : ℕ → List Rank → Rank → ℕ → List Rank
-at n l c i = take i l ++ placed_rank c (drop i (take n l))
-
--- and all that stands behind
-abbrev whole : ℕ → List Rank → Rank → ℕ → List Rank
-whole n l c i = at n l c i ++ drop (n + 1) l
+-- where the loop stands at i: the ranks passed, and what is left put among the others
+abbrev pub at : List Rank → Rank → ℕ → List Rank
+at l c i = take i l ++ placed_rank c (drop i l)
 
 placed_rank_first : (c y : Rank) (ys : List Rank) → ranks_before c y ≡ true → placed_rank c (y ∷ ys) ≡ c ∷ placed_rank y ys
 unfolding placed_rank
@@ -33,95 +23,61 @@ placed_rank_later : (c y : Rank) (ys : List Rank) → ranks_before c y ≡ false
 unfolding placed_rank
 placed_rank_later c y ys e = rw e
 
-rest_is : (n : ℕ) (l : List Rank) (i : ℕ) (d : Rank) → i < n → n ≤ length l → drop i (take n l) ≡ get_or l i d ∷ drop (i + 1) (take n l)
-rest_is n l i d h g =
-    let k : i < length (take n l) = simp length-take (omega arith) in
-    drop-cons (take n l) i d k ∙ rw (get_or-take n l i d, ← add-one)
+module _ (l : List Rank) (c : Rank) (i : ℕ) (h : i < length l) where
+  abbrev met : Rank
+  met = get_or l i no_rank
 
-goes_on : (n : ℕ) (l : List Rank) (c : Rank) (i : ℕ) (d : Rank) → i < n → n ≤ length l → ranks_before c (get_or l i d) ≡ false → at n l c i ≡ at n l c (i + 1)
-goes_on n l c i d h g e =
-    let k : i < length l = omega arith in
-    ap (λ (t : List Rank). take i l ++ placed_rank c t) (rest_is n l i d h g)
-    ∙ ap (λ (t : List Rank). take i l ++ t) (placed_rank_later c (get_or l i d) (drop (i + 1) (take n l)) e)
-    ∙ sym (append_assoc (take i l) (get_or l i d ∷ []) (placed_rank c (drop (i + 1) (take n l))))
-    ∙ ap (λ (t : List Rank). t ++ placed_rank c (drop (i + 1) (take n l))) (sym (take-suc l i d k) ∙ ap (λ (m : ℕ). take m l) (sym (add-one i)))
+  abbrev behind : List Rank
+  behind = drop (suc i) l
 
-swaps : (n : ℕ) (l : List Rank) (c : Rank) (i : ℕ) (d : Rank) → i < n → n ≤ length l → ranks_before c (get_or l i d) ≡ true → at n l c i ≡ at n (set l i c) (get_or l i d) (i + 1)
-swaps n l c i d h g e =
-    let k : i < length l = omega arith in
-    let j : i < i + 1 = omega arith in
-    let R = drop (i + 1) (take n l) in
-    ap (λ (t : List Rank). take i l ++ placed_rank c t) (rest_is n l i d h g)
-    ∙ ap (λ (t : List Rank). take i l ++ t) (placed_rank_first c (get_or l i d) R e)
-    ∙ sym (append_assoc (take i l) (c ∷ []) (placed_rank (get_or l i d) R))
-    ∙ ap (λ (t : List Rank). t ++ placed_rank (get_or l i d) R) (sym (take-suc-set l i c k) ∙ ap (λ (m : ℕ). take m (set l i c)) (sym (add-one i)))
-    ∙ ap (λ (t : List Rank). take (i + 1) (set l i c) ++ placed_rank (get_or l i d) t) (sym (ap (drop (i + 1)) (take-set-lt n l i c h) ∙ drop-set-lt (i + 1) (take n l) i c j))
-
-ends : (n : ℕ) (l : List Rank) (c : Rank) → whole n l c n ≡ take n l ++ (c ∷ drop (n + 1) l)
-unfolding placed_rank
-ends n l c =
-    let h : length (take n l) ≤ n = simp length-take (omega arith) in
-    ap (λ (t : List Rank). (take n l ++ placed_rank c t) ++ drop (n + 1) l) (drop_of_length-le (take n l) h)
-    ∙ append_assoc (take n l) (c ∷ []) (drop (n + 1) l)
-
--- ---- the loop: of a rank c₀ that goes among the first n of p places, c is left at place i, and l has the ranks so far
-pub record Inserting (p n : ℕ) (l₀ : List Rank) (c₀ : Rank) (l : List Rank) (c : Rank) (i : ℕ) : Type 0 where
-  pub passed : i ≤ n
-  pub room : n ≤ p
-  pub places : length l ≡ p
-  pub rest : inserted p n c₀ l₀ ≡ take p (whole n l c i)
-
-pub insert_start : {p n : ℕ} {l : List Rank} {c : Rank} → n ≤ p → length l ≡ p → Inserting p n l c l c 0
-unfolding inserted
-insert_start h g = record { passed = omega arith; room = h; places = g; rest = refl }
-
-module _ {p n : ℕ} {l₀ : List Rank} {c₀ : Rank} {l : List Rank} {c : Rank} {i : ℕ} (s : Inserting p n l₀ c₀ l c i) where
-  -- the rank that is left comes before the one at the place, and the two are exchanged
-  pub insert_swaps : {l' : List Rank} {c' : Rank} → i < n → ranks_before c (get_or l i no_rank) ≡ true → l' ≡ set l i c → c' ≡ get_or l i no_rank → Inserting p n l₀ c₀ l' c' (i + 1)
-  insert_swaps {c' = d} h e u v =
-      let g = s.places in
-      let m : n ≤ length l = omega (arith, g, s.room) in
-      let k : i < n + 1 = omega arith in
-      record {
-        passed = omega arith;
-        room = s.room;
-        places = ap length u ∙ simp length-set g;
-        rest = s.rest ∙ ap (take p)
-            (ap (λ (t : List Rank). t ++ drop (n + 1) l) (swaps n l c i no_rank h m e)
-            ∙ ap (λ (t : List Rank). at n (set l i c) (get_or l i no_rank) (i + 1) ++ t) (sym (drop-set-lt (n + 1) l i c k))
-            ∙ sym (ap (λ (t : List Rank). whole n t d (i + 1)) u ∙ ap (λ (t : Rank). whole n (set l i c) t (i + 1)) v));
-      }
+  -- the rank that is left comes before the one it meets, and the two are exchanged
+  pub place_swaps : ranks_before c met ≡ true → at l c i ≡ at (set l i c) met (i + 1)
+  place_swaps e =
+      let j : i < suc i = omega arith in
+      rw add-one
+      (ap (λ (t : List Rank). take i l ++ placed_rank c t) (drop-cons l i no_rank h)
+      ∙ ap (λ (t : List Rank). take i l ++ t) (placed_rank_first c met behind e)
+      ∙ sym (append_assoc (take i l) (c ∷ []) (placed_rank met behind))
+      ∙ ap (λ (t : List Rank). t ++ placed_rank met behind) (sym (take-suc-set l i c h))
+      ∙ ap (λ (t : List Rank). take (suc i) (set l i c) ++ placed_rank met t) (sym (drop-set-lt (suc i) l i c j)))
 
   -- it does not, and goes on
-  pub insert_goes_on : {l' : List Rank} {c' : Rank} → i < n → ranks_before c (get_or l i no_rank) ≡ false → l' ≡ l → c' ≡ c → Inserting p n l₀ c₀ l' c' (i + 1)
-  insert_goes_on {c' = d} h e u v =
-      let g = s.places in
-      let m : n ≤ length l = omega (arith, g, s.room) in
-      record {
-        passed = omega arith;
-        room = s.room;
-        places = ap length u ∙ g;
-        rest = s.rest ∙ ap (take p)
-            (ap (λ (t : List Rank). t ++ drop (n + 1) l) (goes_on n l c i no_rank h m e)
-            ∙ sym (ap (λ (t : List Rank). whole n t d (i + 1)) u ∙ ap (λ (t : Rank). whole n l t (i + 1)) v));
-      }
+  pub place_goes_on : ranks_before c met ≡ false → at l c i ≡ at l c (i + 1)
+  place_goes_on e =
+      rw add-one
+      (ap (λ (t : List Rank). take i l ++ placed_rank c t) (drop-cons l i no_rank h)
+      ∙ ap (λ (t : List Rank). take i l ++ t) (placed_rank_later c met behind e)
+      ∙ sym (append_assoc (take i l) (met ∷ []) (placed_rank c behind))
+      ∙ ap (λ (t : List Rank). t ++ placed_rank c behind) (sym (take-suc l i no_rank h)))
 
-  done : n ≤ i → inserted p n c₀ l₀ ≡ take p (take n l ++ (c ∷ drop (n + 1) l))
-  done h =
-      let e : i ≡ n = omega (arith, s.passed) in
-      s.rest ∙ ap (λ (k : ℕ). take p (whole n l c k)) e ∙ ap (take p) (ends n l c)
+-- ---- the end: l are the first n of p ranks after the loop, and c is the rank that is left
+module _ (p n i : ℕ) (ranks l : List Rank) (e c : Rank) (f : placed_rank e (take n ranks) ≡ at l c i) (g : length l ≡ n) (h : length ranks ≡ p) (k : n ≤ i) where
+  placed_is : placed_rank e (take n ranks) ≡ l ++ (c ∷ [])
+  unfolding placed_rank
+  placed_is =
+      let m : length l ≤ i = omega arith in
+      f ∙ ap (λ (t : List Rank). t ++ placed_rank c (drop i l)) (take_all i l m) ∙ ap (λ (t : List Rank). l ++ placed_rank c t) (drop_of_length-le l m)
 
-  -- at the end, with room, the rank that is left goes behind the others
-  pub insert_keeps : n ≤ i → n < p → set l n c ≡ inserted p n c₀ l₀
-  insert_keeps h r =
-      let k : n < length l = omega (arith, s.places) in
-      let e : set l n c ≡ take n l ++ (c ∷ drop (n + 1) l) = rw (add-one, set_split l n c k) in
-      let m : length (set l n c) ≤ p = simp length-set (omega (arith, s.places)) in
-      sym (done h ∙ ap (take p) (sym e) ∙ take_all p (set l n c) m)
+  -- with room, it goes behind the others
+  pub place_keeps : n < p → set (l ++ drop n ranks) n c ≡ inserted p n e ranks
+  unfolding inserted
+  place_keeps r =
+      let m : n < length ranks = omega arith in
+      let y = get_or ranks n no_rank in
+      let ys = drop (suc n) ranks in
+      let q : set (l ++ drop n ranks) n c ≡ (l ++ (c ∷ [])) ++ ys =
+      ap (λ (t : List Rank). set (l ++ t) n c) (drop-cons ranks n no_rank m)
+      ∙ ap (λ (j : ℕ). set (l ++ (y ∷ ys)) j c) (sym g)
+      ∙ set-append_seam l y ys c
+      ∙ sym (append_assoc l (c ∷ []) ys) in
+      let s : length (set (l ++ drop n ranks) n c) ≤ p = simp (length-set, length-append, length-drop) (omega arith) in
+      rw (add-one, placed_is, ← q) (sym (take_all p (set (l ++ drop n ranks) n c) s))
 
   -- without, it is dropped
-  pub insert_drops : n ≤ i → p ≤ n → l ≡ inserted p n c₀ l₀
-  insert_drops h r =
-      let m : length (take n l) ≡ p = simp length-take (omega (arith, s.places, s.room)) in
-      let a : length l ≤ n = omega (arith, s.places) in
-      sym (done h ∙ take_at (take n l) (c ∷ drop (n + 1) l) p m ∙ take_all n l a)
+  pub place_drops : p ≤ n → n ≤ p → l ++ drop n ranks ≡ inserted p n e ranks
+  unfolding inserted
+  place_drops r s =
+      let m : length ranks ≤ n = omega arith in
+      let w : length l ≡ p = omega arith in
+      ap (λ (t : List Rank). l ++ t) (drop_of_length-le ranks m) ∙ append-nil l
+      ∙ sym (rw (placed_is, append_assoc) (take_at l (c ∷ drop (n + 1) ranks) p w))

@@ -10,7 +10,7 @@ use lib.ListN.{length, get_or, drop}
 use lib.Seq.{drop-cons}
 
 module _ {X A : Type 0} (wants : A → X → Bool) (add : A → X → A) where
-  abbrev turn : A → X → A
+  abbrev pub turn : A → X → A
   turn a x = cond (wants a x) (add a x) a
 
   -- the first element from i on is folded

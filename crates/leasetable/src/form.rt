@@ -1,8 +1,8 @@
 // Whether a lease table keeps its form.
-ghost use Rattle.std.specs.Prelude.{◌≡◌, cond};
-ghost use mathlib.Core.List.{foldl};
-ghost use Rattle.leasetable.specs.Folds.{form_start, form_off, form_wants, form_add, form_turn};
+ghost use Rattle.std.specs.Prelude.{◌≡◌};
+ghost use Rattle.leasetable.specs.Folds.{form_start, form_off, form_wants, form_add};
 
+use crate::scanning::Carried;
 use lease::{Lease, form};
 
 // The most records that a table has.
@@ -25,52 +25,27 @@ pub fn start(count: usize) -> Form
     }
 }
 
-// No record is read of a table that has too many.
-fn is_off(a: Form) -> bool
-    ensures { result ≡ form_off a }
-{
-    !a.ok
-}
+impl Carried for Form {
+    ghost off = { form_off };
 
-// A table that was found to break its form is not looked at further.
-fn does_want(a: Form, x: Lease) -> bool
-    ensures { result ≡ form_wants a x }
-{
-    a.ok
-}
+    ghost wants = { form_wants };
 
-// One record more.
-#[tactic(auto, unfolding(crate::specs::Folds::form_add))]
-fn with_record(a: Form, x: Lease) -> Form
-    ensures { result ≡ form_add a x }
-{
-    let address = x.address;
-    if a.last < address {
-        if form::is_well_formed(x) {
-            return Form {
-                ok: true,
-                last: address,
-            };
-        }
-    }
-    Form { ok: false, last: 0 }
-}
+    ghost add = { form_add };
 
-// The records of a table.
-pub fn scan(t: &[Lease], a: Form) -> Form
-    ensures { result ≡ cond (form_off a) a (foldl form_turn a t.now) }
-{
-    if is_off(a) {
-        return a;
+    // No record is read of a table that has too many.
+    fn is_off(&self) -> bool {
+        !self.ok
     }
-    let mut acc = a;
-    let mut i = 0;
-    while i < t.len() {
-        let x = t[i];
-        i += 1;
-        if does_want(acc, x) {
-            acc = with_record(acc, x);
-        }
+
+    // A table that was found to break its form is not looked at further.
+    fn does_want(&self, x: &Lease) -> bool {
+        self.ok
     }
-    acc
+
+    // One record more, whose address is above the last.
+    #[tactic(auto, unfolding(crate::specs::Folds::form_add))]
+    fn note(&mut self, x: &Lease) {
+        self.ok = self.last < x.address && form::is_well_formed(x);
+        self.last = if self.ok { x.address } else { 0 };
+    }
 }

@@ -1,5 +1,5 @@
-// Scans over the lent lease table. Each is thin: it hands one record after the other, by value, to a
-// test, and those that pass to a step. All have the one shape whose law is proofs/Scan.antt.
+// Scans over the lent lease table. One scan serves all: what it looks for and how a record is noted is
+// each module's own.
 
 #![tactic(auto)]
 
@@ -9,3 +9,4 @@ pub mod client;
 pub mod form;
 pub mod look;
 pub mod record;
+pub mod scanning;

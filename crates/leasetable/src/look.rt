@@ -6,7 +6,7 @@ ghost use Rattle.lease.specs.Lease.{no_lease};
 use crate::associated::Associated;
 use crate::candidates::Candidates;
 use crate::record::Record;
-use crate::{associated, candidates, record};
+use crate::scanning::scan;
 use clock::Moment;
 use lease::{Lease, Rank};
 
@@ -25,39 +25,24 @@ pub struct Found {
 
 // Where the client has less than four leases, all ranks are known.
 #[tactic(auto, unfolding(crate::specs::Folds::associated_from))]
-fn associated_from(four: Candidates) -> Associated
-    ensures { result ≡ associated_from four }
+fn associated_from(four: &Candidates) -> Associated
+    ensures { result ≡ associated_from four.now }
 {
     let blank = Rank {
         last: Moment(0),
         address: 0,
     };
+    let known = four.kept != 4;
     let mut ranks = [blank; 63];
-    let clock = four.clock;
-    let key = four.key;
-    if four.kept == 4 {
-        return Associated {
-            known: false,
-            refusal: four.refusal,
-            clock,
-            key,
-            kept: 0,
-            ranks,
-        };
+    if known {
+        ranks[..3].copy_from_slice(&four.ranks[..3]);
     }
-    let held = four.ranks;
-    let a = held[0];
-    let b = held[1];
-    let c = held[2];
-    ranks[0] = a;
-    ranks[1] = b;
-    ranks[2] = c;
     Associated {
-        known: true,
+        known,
         refusal: four.refusal,
-        clock,
-        key,
-        kept: four.kept,
+        clock: four.clock,
+        key: four.key,
+        kept: if known { four.kept } else { 0 },
         ranks,
     }
 }
@@ -67,14 +52,12 @@ fn associated_from(four: Candidates) -> Associated
 fn no_lease() -> Lease
     ensures { result ≡ no_lease }
 {
-    let chaddr = [0; 16];
-    let octets = [0; 64];
     Lease {
         last: Moment(0),
         expiry: Moment(0),
-        chaddr,
-        id: octets,
-        relay: octets,
+        chaddr: [0; 16],
+        id: [0; 64],
+        relay: [0; 64],
         address: 0,
         state: 0,
         htype: 0,
@@ -86,43 +69,33 @@ fn no_lease() -> Lease
 
 // The address that is asked for, or that of the client's first lease.
 #[tactic(auto, unfolding(crate::specs::Folds::record_for))]
-fn record_for(four: Candidates) -> Record
-    ensures { result ≡ record_for four }
+fn record_for(four: &Candidates) -> Record
+    ensures { result ≡ record_for four.now }
 {
-    let best = no_lease();
-    let key = four.key;
-    if key.kind == 1 {
-        return Record {
-            none: false,
-            address: key.address as u64,
-            best,
-        };
-    }
-    let ranks = four.ranks;
-    let first = ranks[0];
+    let by_address = four.key.kind == 1;
     Record {
-        none: four.kept == 0,
-        address: first.address,
-        best,
+        none: !by_address && four.kept == 0,
+        address: if by_address {
+            four.key.address as u64
+        } else {
+            four.ranks[0].address
+        },
+        best: no_lease(),
     }
 }
 
 // All that was found.
 #[tactic(auto, unfolding(crate::specs::Folds::found))]
-fn found_by(all: Associated, one: Record) -> Found
-    ensures { result ≡ found all one }
+fn found_by(all: &Associated, one: &Record) -> Found
+    ensures { result ≡ found all.now one.now }
 {
-    let clock = all.clock;
-    let key = all.key;
-    let ranks = all.ranks;
-    let best = one.best;
     Found {
         refusal: all.refusal,
-        clock,
-        kind: key.kind,
+        clock: all.clock,
+        kind: all.key.kind,
         kept: all.kept,
-        ranks,
-        best,
+        ranks: all.ranks,
+        best: one.best,
     }
 }
 
@@ -131,8 +104,8 @@ fn found_by(all: Associated, one: Record) -> Found
 pub fn look(t: &[Lease], a: Candidates) -> Found
     ensures { result ≡ looked a t.now }
 {
-    let four = candidates::scan(t, a);
-    let all = associated::scan(t, associated_from(four));
-    let one = record::scan(t, record_for(four));
-    found_by(all, one)
+    let four = scan(t, a);
+    let all = scan(t, associated_from(&four));
+    let one = scan(t, record_for(&four));
+    found_by(&all, &one)
 }

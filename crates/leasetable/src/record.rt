@@ -1,8 +1,7 @@
 // The record of an address.
-ghost use Rattle.std.specs.Prelude.{◌≡◌, cond};
-ghost use mathlib.Core.List.{foldl};
-ghost use Rattle.leasetable.specs.Folds.{record_off, record_wants, record_add, record_turn};
+ghost use Rattle.leasetable.specs.Folds.{record_off, record_wants, record_add};
 
+use crate::scanning::Carried;
 use lease::Lease;
 
 // The address that is looked for, unless none is, and its record, or one of the address 0.
@@ -13,46 +12,25 @@ pub struct Record {
     pub best: Lease,
 }
 
-// Whether no address is looked for.
-fn is_off(a: Record) -> bool
-    ensures { result ≡ record_off a }
-{
-    a.none
-}
+impl Carried for Record {
+    ghost off = { record_off };
 
-// Whether a record has the address.
-fn does_want(a: Record, x: Lease) -> bool
-    ensures { result ≡ record_wants a x }
-{
-    x.address as u64 == a.address
-}
+    ghost wants = { record_wants };
 
-// The record is kept.
-fn with_record(a: Record, x: Lease) -> Record
-    ensures { result ≡ record_add a x }
-{
-    Record {
-        none: a.none,
-        address: a.address,
-        best: x,
-    }
-}
+    ghost add = { record_add };
 
-// The records of a table, where anything is looked for.
-pub fn scan(t: &[Lease], a: Record) -> Record
-    ensures { result ≡ cond (record_off a) a (foldl record_turn a t.now) }
-{
-    if is_off(a) {
-        return a;
+    // Whether no address is looked for.
+    fn is_off(&self) -> bool {
+        self.none
     }
-    let mut acc = a;
-    let mut i = 0;
-    while i < t.len() {
-        let x = t[i];
-        i += 1;
-        if does_want(acc, x) {
-            acc = with_record(acc, x);
-        }
+
+    // Whether a record has the address.
+    fn does_want(&self, x: &Lease) -> bool {
+        x.address as u64 == self.address
     }
-    acc
+
+    // The record is kept.
+    fn note(&mut self, x: &Lease) {
+        self.best = *x;
+    }
 }

@@ -1,21 +1,21 @@
-use Rattle.std.proofs.Common.{rules, arith, ◌≡◌, refl, length}
+use Rattle.std.proofs.Common.{arith, ◌≤◌, length}
+use lib.Seq.{take_all}
 use Rattle.octets.proofs.WriteLaws.{nothing}
 use Rattle.leasereply.specs.Reply.{flat}
 use Rattle.leasereply.proofs.ReplyLaws.{flat_more}
 use Rattle.leasereply.proofs.options.put_addresses.Goals as goal
 
-pub loop-i-init : goal.loop-i-init
+pub loop-rank-init : goal.loop-rank-init
 unfolding flat
-loop-i-init c = (omega arith, refl, nothing)
+loop-rank-init c = nothing
 
-pub loop-i-preserved : goal.loop-i-preserved
-loop-i-preserved c =
-    let l = c.loop-i in
-    let e : length c.args.ranks ≡ 63 = search rules in
-    let w = rw c.low_32.ensures at c.put_u32-a.ensures in
-    (omega arith, omega arith, flat_more c.args.ranks l.i (omega arith) l.invariant.2 w)
+pub loop-rank-preserved : goal.loop-rank-preserved
+loop-rank-preserved c =
+    let l = c.loop-rank in
+    flat_more c.args.ranks.now l.rank-index (omega arith) l.invariant (rw c.low_32.ensures at c.put_u32-a.ensures)
 
 pub returns : goal.returns
 returns c =
-    let q : c.loop-i.i ≡ c.args.n = omega arith in
-    rw q at c.loop-i.invariant.2
+    let l = c.loop-rank in
+    let h : length c.args.ranks.now ≤ l.rank-index = omega arith in
+    rw (take_all l.rank-index c.args.ranks.now h) at l.invariant
