@@ -8,3 +8,4 @@ pub mod SoundLaws
 pub mod ChainLaws
 pub mod InsertLaws
 pub mod MomentLaws
+pub mod LibraryLaws

@@ -2,13 +2,14 @@
 use mathlib.Core.Path.{◌≡◌, refl, ap, sym, ◌∙◌}
 use mathlib.Core.Bool.{Bool, true, false, cond, ◌||◌}
 use mathlib.Core.List.{List, [], ◌∷◌, ◌++◌, append_assoc, append-nil}
-use Prim.Native.Nat.{ℕ, zero, suc, ◌+◌, ◌-◌, ◌≤◌, ◌<◌, min}
+use Prim.Native.Nat.{ℕ, zero, suc, ◌+◌, ◌-◌, ◌≤◌, ◌<◌}
 use native.Mathlib.Numerals.{add-one}
 use native.Mathlib.Omega.{arith}
 use lib.Dec.{ltb, leb-suc-suc}
 use lib.ListN.{length, take, drop, get_or, set, replicate, length-append, length-drop, drop_of_length-le}
-use lib.Seq.{set-append_seam, set_split, take-suc-set, drop-set-lt, drop-cons, take_all, take_at, drop_at, length-take-le, get_or-take, get_or-drop, set-append_left, append_snoc}
-use borrow.Author.Tests.{lt-ltb, le-ltb, ltb-true, ltb-false}
+use lib.Seq.{set-append_seam, set_split, drop-cons, take_at, drop_at, length-take-le, get_or-drop, set-append_left}
+use borrow.Author.Tests.{lt-ltb, le-ltb}
+use Rattle.std.specs.List.{copy_within}
 use Rattle.entries.specs.Entries.{Kind, one_of, no_later, filled}
 use Rattle.entries.specs.Places.{place, insert_at, remove_at, replace_at, evict_place}
 use Rattle.entries.proofs.EntryLaws.{one_evicts, one_nil}
@@ -24,18 +25,12 @@ module _ {E : Type 0} where
   take_short (suc n) [] = omega arith
   take_short (suc n) (x ∷ l) = omega (arith, take_short n l)
 
-  -- the first n of a list that has no more than m
-  pub take_within : (n m : ℕ) (l : List E) → length l ≤ m → take (min n m) l ≡ take n l
-  take_within n m l h = go (ltb n m) refl
-    where
-      go : (b : Bool) → ltb n m ≡ b → take (min n m) l ≡ take n l
-      go true q =
-          let e : min n m ≡ n = omega (arith, ltb-true n m q) in
-          rw e
-      go false q =
-          let k : m ≤ n = ltb-false n m q in
-          let e : min n m ≡ m = omega arith in
-          rw e (take_all m l h ∙ sym (take_all n l (omega arith)))
+  -- so many from the front are no more than there are
+  pub take_most : (n m : ℕ) (l : List E) → length l ≤ m → length (take n l) ≤ m
+  take_most zero m l h = omega arith
+  take_most (suc n) m [] h = omega arith
+  take_most (suc n) zero (x ∷ l) h = absurd (omega arith)
+  take_most (suc n) (suc m) (x ∷ l) h = omega (arith, take_most n m l (omega arith))
 
   pub removed_length : (k : ℕ) (l : List E) → k < length l → length (remove_at k l) + 1 ≡ length l
   removed_length k l h = omega (arith, length-append (take k l) (drop (suc k) l), length-take-le k l (omega arith), length-drop (suc k) l)
@@ -46,46 +41,38 @@ module _ {E : Type 0} where
   pub replaced_length : (k : ℕ) (e : E) (l : List E) → k < length l → length (replace_at k e l) ≡ length l
   replaced_length k e l h = omega (arith, length-append (take k l) (e ∷ drop (suc k) l), length-take-le k l (omega arith), length-drop (suc k) l)
 
-  -- a turn of the loop that moves entries up: m without its place i is always the list without its place k
-  pub up_more : (m : List E) (i : ℕ) (d : E) → i + 1 < length m → remove_at (i + 1) (set m i (get_or m (i + 1) d)) ≡ remove_at i m
-  up_more m i d h =
-      let e = get_or m (suc i) d in
-      let t : take (suc i) (set m i e) ≡ take i m ++ (e ∷ []) = take-suc-set m i e (omega arith) in
-      let u : drop (suc (suc i)) (set m i e) ≡ drop (suc (suc i)) m = drop-set-lt (suc (suc i)) m i e (omega arith) in
-      let v : drop (suc i) m ≡ e ∷ drop (suc (suc i)) m = drop-cons m (suc i) d (omega arith) in
-      rw (add-one i, t, u, v) (append_snoc (take i m) e (drop (suc (suc i)) m))
+  -- the entries behind a place moved up by one, as far as a place that is then written
+  moved_first : (l : List E) (x : E) (n : ℕ) (e : E) → n ≤ length l → set (take n l ++ drop n (x ∷ l)) n e ≡ take n l ++ (e ∷ drop n l)
+  moved_first l x zero e h = refl
+  moved_first [] x (suc n) e h = absurd (omega arith)
+  moved_first (y ∷ l) x (suc n) e h = ap (λ (r : List E). y ∷ r) (moved_first l y n e (omega arith))
 
-  -- a turn of the loop that moves entries back: m with the carried one at place i is always the list with e at place k
-  pub back_more : (m : List E) (i : ℕ) (carried d : E) → i < length m → insert_at (i + 1) (get_or m i d) (set m i carried) ≡ insert_at i carried m
-  back_more m i carried d h =
-      let t : take (suc i) (set m i carried) ≡ take i m ++ (carried ∷ []) = take-suc-set m i carried h in
-      let u : drop (suc i) (set m i carried) ≡ drop (suc i) m = drop-set-lt (suc i) m i carried (omega arith) in
-      rw (add-one i, t, u, drop-cons m i d h) (append_snoc (take i m) carried (get_or m i d ∷ drop (suc i) m))
+  moved_up_by : (l : List E) (k n a : ℕ) (e : E) → a ≡ k + n → a < length l → set ((take k l ++ take n (drop (suc k) l)) ++ drop a l) a e ≡ insert_at a e (remove_at k l)
+  moved_up_by [] k n a e q h = absurd (omega arith)
+  moved_up_by (x ∷ l) zero n a e q h =
+      let s : n ≡ a = omega arith in
+      rw s (moved_first l x a e (omega arith))
+  moved_up_by (x ∷ l) (suc k) n zero e q h = absurd (omega arith)
+  moved_up_by (x ∷ l) (suc k) n (suc a) e q h = ap (λ (r : List E). x ∷ r) (moved_up_by l k n a e (omega arith) (omega arith))
 
-  -- an entry put in, and one no nearer the front taken out
-  inserted_out : (k n : ℕ) (x : E) (l : List E) → k ≤ n → n < length l → remove_at (suc n) (insert_at k x l) ≡ insert_at k x (remove_at n l)
-  inserted_out zero n x l h b = refl
-  inserted_out (suc k) zero x l h b = absurd (omega arith)
-  inserted_out (suc k) (suc n) x [] h b = absurd (omega arith)
-  inserted_out (suc k) (suc n) x (e ∷ l) h b = ap (λ (r : List E). e ∷ r) (inserted_out k n x l (omega arith) (omega arith))
+  pub moved_up : (l : List E) (out at : ℕ) (e : E) → out ≤ at → at < length l → set (copy_within l (out + 1) (at + 1) out) at e ≡ insert_at at e (remove_at out l)
+  moved_up l out at e h b =
+      let s : out + (at + 1 - (out + 1)) ≡ at = omega arith in
+      rw (s, add-one out) (moved_up_by l out (at + 1 - suc out) at e (omega arith) b)
 
-  set_out : (n : ℕ) (x : E) (l : List E) → n < length l → remove_at (suc n) (insert_at n x l) ≡ set l n x
-  set_out n x [] h = absurd (omega arith)
-  set_out zero x (e ∷ l) h = refl
-  set_out (suc n) x (e ∷ l) h = ap (λ (r : List E). e ∷ r) (set_out n x l (omega arith))
+  -- the entries from a place on moved back by one, and that place written
+  moved_back_by : (l : List E) (k n a : ℕ) (e : E) → a ≡ k + n → a < length l → set ((take (suc k) l ++ take n (drop k l)) ++ drop (suc a) l) k e ≡ insert_at k e (remove_at a l)
+  moved_back_by [] k n a e q h = absurd (omega arith)
+  moved_back_by (x ∷ l) zero n a e q h =
+      let s : n ≡ a = omega arith in
+      rw s
+  moved_back_by (x ∷ l) (suc k) n zero e q h = absurd (omega arith)
+  moved_back_by (x ∷ l) (suc k) n (suc a) e q h = ap (λ (r : List E). x ∷ r) (moved_back_by l k n a e (omega arith) (omega arith))
 
-  set_in : (n : ℕ) (x : E) (l : List E) → n < length l → set l n x ≡ insert_at n x (remove_at n l)
-  set_in n x [] h = absurd (omega arith)
-  set_in zero x (e ∷ l) h = refl
-  set_in (suc n) x (e ∷ l) h = ap (λ (r : List E). e ∷ r) (set_in n x l (omega arith))
-
-  -- the entries between the two places moved up, and the last of these places written
-  pub up_out : (l m : List E) (k n : ℕ) (x : E) → n < length m → remove_at n m ≡ remove_at k l → set m n x ≡ insert_at n x (remove_at k l)
-  up_out l m k n x h e = set_in n x m h ∙ ap (insert_at n x) e
-
-  -- the entries between the two places moved back
-  pub back_out : (l m : List E) (k n : ℕ) (carried x : E) → length m ≡ length l → k ≤ n → n < length l → insert_at n carried m ≡ insert_at k x l → set m n carried ≡ insert_at k x (remove_at n l)
-  back_out l m k n carried x w h b e = sym (set_out n carried m (omega arith)) ∙ ap (remove_at (suc n)) e ∙ inserted_out k n x l h b
+  pub moved_back : (l : List E) (out at : ℕ) (e : E) → at ≤ out → out < length l → set (copy_within l at out (at + 1)) at e ≡ insert_at at e (remove_at out l)
+  moved_back l out at e h b =
+      let t : suc at + (out - at) ≡ suc out = omega arith in
+      rw (add-one at, t) (moved_back_by l at (out - at) out e (omega arith) b)
 
   -- a list with more behind it
   removed_ahead : (k : ℕ) (l r : List E) → k < length l → remove_at k (l ++ r) ≡ remove_at k l ++ r
@@ -162,24 +149,6 @@ module _ {E : Type 0} (p : E → Bool) where
       go : (b : Bool) → one_of p l ≡ ltb (place p l) (length l) → (b || one_of p l) ≡ ltb (cond b 0 (suc (place p l))) (suc (length l))
       go true h = sym (lt-ltb 0 (suc (length l)) (omega arith))
       go false h = h ∙ sym (leb-suc-suc (suc (place p l)) (length l))
-
--- The search of an array of which the first n places are held.
-module _ {E : Type 0} (p : E → Bool) (l : List E) (n i : ℕ) (d : E) (h : i < n) (k : n ≤ length l) where
-  at_place : place p (drop i (take n l)) ≡ cond (p (get_or l i d)) 0 (suc (place p (drop (suc i) (take n l))))
-  unfolding place
-  at_place =
-      let q : i < length (take n l) = omega (arith, length-take-le n l k) in
-      rw (drop-cons (take n l) i d q, get_or-take n l i d h)
-
-  pub place_here : p (get_or l i d) ≡ true → place p (drop i (take n l)) ≡ 0
-  place_here t = rw (at_place, t)
-
-  pub place_next : p (get_or l i d) ≡ false → place p (drop i (take n l)) ≡ suc (place p (drop (i + 1) (take n l)))
-  place_next t = rw (at_place, t, add-one)
-
-pub place_end : {E : Type 0} (p : E → Bool) (l : List E) (n i : ℕ) → n ≤ i → n ≤ length l → place p (drop i (take n l)) ≡ 0
-unfolding place
-place_end p l n i h k = rw (drop_of_length-le (take n l) {i = i} (omega (arith, length-take-le n l k)))
 
 -- The search for the entry that is evicted goes from the back.
 module _ {K E : Type 0} (kind : Kind K E) (l : List E) (d : E) where

@@ -5,7 +5,7 @@ ghost use Rattle.entries.specs.Places.{earlier_of};
 use clock::Moment;
 
 // The entry to be evicted among those from a place on: its place and when it expires.
-#[derive(Clone, Copy)]
+#[derive(Clone, Copy, PartialEq, Eq, Debug)]
 pub struct Candidate {
     pub at: usize,
     pub expires: Moment,
@@ -13,12 +13,12 @@ pub struct Candidate {
 
 // The candidate from one place further ahead on: the entry there, if it expires before the candidate
 // from here on.
-pub fn earlier_of(c: Candidate, x: Moment, at: usize) -> Candidate
-    ensures { result ≡ earlier_of c x at }
+pub fn earlier_of(c: Candidate, expires: Moment, at: usize) -> Candidate
+    ensures { result ≡ earlier_of c expires at }
 {
-    let y = c.expires;
-    if y.0 <= x.0 {
-        return c;
+    if c.expires <= expires {
+        c
+    } else {
+        Candidate { at, expires }
     }
-    Candidate { at: at, expires: x }
 }

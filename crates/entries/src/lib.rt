@@ -14,7 +14,7 @@ use clock::{Moment, Span};
 
 // The moments of an entry: its expiry, by the Lifetime of the option that named it last, a moment or
 // clock::NEVER; and the moment at which that router's lifetime ends.
-#[derive(Clone, Copy)]
+#[derive(Clone, Copy, PartialEq, Eq, Debug)]
 pub struct Moments {
     pub expiry: Moment,
     pub router: Moment,
@@ -25,9 +25,7 @@ pub struct Moments {
 pub fn earlier(m: Moments) -> Moment
     ensures { result ≡ earlier m }
 {
-    let x = m.expiry;
-    let y = m.router;
-    if x.0 < y.0 { x } else { y }
+    m.expiry.min(m.router)
 }
 
 // Whether the expiry is a moment or never, and the router moment a moment.
@@ -35,10 +33,7 @@ pub fn earlier(m: Moments) -> Moment
 pub fn are_moments(m: Moments) -> bool
     ensures { result ≡ are_moments m }
 {
-    if !clock::is_expiry(m.expiry) {
-        return false;
-    }
-    clock::is_moment(m.router)
+    clock::is_expiry(m.expiry) && clock::is_moment(m.router)
 }
 
 // Whether an entry with these moments has expired at a clock: at the earlier of them it has not.
@@ -53,11 +48,9 @@ pub fn is_expired(m: Moments, clock: Moment) -> bool
 pub fn moments_after(clock: Moment, lifetime: Span, router: Span) -> Moments
     ensures { result ≡ moments_after clock lifetime router }
 {
-    let x = clock::expiry_after(clock, lifetime);
-    let y = clock::moment_after(clock, router);
     Moments {
-        expiry: x,
-        router: y,
+        expiry: clock::expiry_after(clock, lifetime),
+        router: clock::moment_after(clock, router),
     }
 }
 
@@ -66,8 +59,5 @@ pub fn moments_after(clock: Moment, lifetime: Span, router: Span) -> Moments
 pub fn withdraws(lifetime: Span, router: Span) -> bool
     ensures { result ≡ withdraws lifetime router }
 {
-    if lifetime.0 == 0 {
-        return true;
-    }
-    router.0 == 0
+    lifetime == Span(0) || router == Span(0)
 }
