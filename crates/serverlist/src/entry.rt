@@ -23,12 +23,10 @@ pub fn blank() -> Server
 pub fn about(a: Address6, m: Moments) -> Server
     ensures { result ≡ servers.entry a m }
 {
-    let x = m.expiry;
-    let y = m.router;
     Server {
         address: a,
-        expiry: x,
-        router: y,
+        expiry: m.expiry,
+        router: m.router,
     }
 }
 
@@ -43,19 +41,16 @@ pub fn renew(e: Server, m: Moments) -> Server
 pub fn is_about(e: Server, a: Address6) -> bool
     ensures { result ≡ is_about servers a e }
 {
-    let b = e.address;
-    octets::compare::same(&a.octets, &b.octets)
+    octets::compare::same(&a.octets, &e.address.octets)
 }
 
 // The moments of an entry.
 pub fn moments_of(e: Server) -> Moments
     ensures { result ≡ servers.moments e }
 {
-    let x = e.expiry;
-    let y = e.router;
     Moments {
-        expiry: x,
-        router: y,
+        expiry: e.expiry,
+        router: e.router,
     }
 }
 

@@ -8,86 +8,60 @@ use crate::{PLACES, Server, ServerList, entry};
 
 // Without the entry at a place, and with another at a place no nearer the front: those between move
 // up.
-fn moved_up(l: ServerList, out: usize, at: usize, e: Server) -> ServerList
+fn move_up(l: &mut ServerList, out: usize, at: usize, e: Server)
     requires { (out ≤ at) × (at < places) }
-    ensures { result ≡ shifted server_places out at e l }
+    ensures { l.new ≡ shifted server_places out at e l.old }
 {
-    let mut m = l;
-    let mut i = out;
-    while i < at {
-        let next = m.entries[i + 1];
-        m.entries[i] = next;
-        i += 1;
-    }
-    m.entries[at] = e;
-    m
+    l.entries.copy_within(out + 1..at + 1, out);
+    l.entries[at] = e;
 }
 
 // Without the entry at a place, and with another at a place no further back: those between move back.
-fn moved_back(l: ServerList, out: usize, at: usize, e: Server) -> ServerList
+fn move_back(l: &mut ServerList, out: usize, at: usize, e: Server)
     requires { (at ≤ out) × (out < places) }
-    ensures { result ≡ shifted server_places out at e l }
+    ensures { l.new ≡ shifted server_places out at e l.old }
 {
-    let mut m = l;
-    let mut carried = e;
-    let mut i = at;
-    while i < out {
-        let next = m.entries[i];
-        m.entries[i] = carried;
-        carried = next;
-        i += 1;
-    }
-    m.entries[out] = carried;
-    m
+    l.entries.copy_within(at..out, at + 1);
+    l.entries[at] = e;
 }
 
 // Without what stands at a place, and then with an entry put in at a place: those between move. Where
 // one of the two is no place of a list, nothing changes.
-pub fn exchange(l: ServerList, out: usize, at: usize, e: Server) -> ServerList
-    ensures { result ≡ exchanged server_places out at e l }
+pub fn exchange(l: &mut ServerList, out: usize, at: usize, e: Server)
+    ensures { l.new ≡ exchanged server_places out at e l.old }
 {
-    if PLACES <= out {
-        return l;
-    }
-    if PLACES <= at {
-        return l;
+    if PLACES <= out || PLACES <= at {
+        return;
     }
     if at <= out {
-        return moved_back(l, out, at, e);
+        move_back(l, out, at, e);
+    } else {
+        move_up(l, out, at, e);
     }
-    moved_up(l, out, at, e)
 }
 
 // Without the entry at a place: those behind it move up, and the last one's place is blank. Where the
 // list holds no entry there, nothing changes.
-pub fn remove(l: ServerList, at: usize) -> ServerList
-    ensures { result ≡ without server_places at l }
+pub fn remove(l: &mut ServerList, at: usize)
+    ensures { l.new ≡ without server_places at l.old }
 {
-    let n = l.count;
-    if PLACES < n {
-        return l;
+    if PLACES < l.count || l.count <= at {
+        return;
     }
-    if n <= at {
-        return l;
-    }
-    let mut m = moved_up(l, at, n - 1, entry::blank());
-    m.count = n - 1;
-    m
+    let last = l.count - 1;
+    move_up(l, at, last, entry::blank());
+    l.count = last;
 }
 
 // With an entry put in at a place: those from there on move back. Where there is no room, or the place
 // is past the count, nothing changes.
-pub fn insert(l: ServerList, at: usize, e: Server) -> ServerList
-    ensures { result ≡ inserted_in server_places at e l }
+pub fn insert(l: &mut ServerList, at: usize, e: Server)
+    ensures { l.new ≡ inserted_in server_places at e l.old }
 {
-    let n = l.count;
-    if PLACES <= n {
-        return l;
+    if PLACES <= l.count || l.count < at {
+        return;
     }
-    if n < at {
-        return l;
-    }
-    let mut m = moved_back(l, n, at, e);
-    m.count = n + 1;
-    m
+    let end = l.count;
+    move_back(l, end, at, e);
+    l.count = end + 1;
 }
