@@ -6,12 +6,12 @@ use Prim.Native.Nat.{ℕ, zero, suc, ◌+◌, ◌-◌, ◌*◌, ◌/◌, ◌%◌
 use native.Mathlib.Omega.{arith}
 use lib.Dec.{leb, eqb}
 use borrow.Author.Tests.{leb-true, leb-false, le-leb, lt-leb, eq-eqb, ne_eqb}
-use lib.ListN.{length, take, drop, get_or, length-drop, drop_of_length-le}
+use lib.ListN.{length, take, drop, length-drop}
 use native.Mathlib.Nat.{div-mul-le_self}
-use lib.Seq.{drop-drop, get_or-drop, get_or-take, length-take-le}
+use lib.Seq.{get_or-take, length-take-le}
 use Rattle.octets.proofs.BoolLaws.{and_left, and_right}
 use Rattle.rdnss.specs.Area.{is_whole, options, type_of, length_of, is_acting}
-use Rattle.rdnss.specs.Places.{OptionFits}
+use Rattle.rdnss.specs.Places.{Splits, Ends}
 
 -- the octets still to come, skipped at once
 pub whole_skip : (k : ℕ) (s : List ℕ) → k ≤ length s → is_whole k s ≡ is_whole 0 (drop k s)
@@ -108,46 +108,29 @@ module _ (v : List ℕ) where
 pub count_fits_lem : (u : ℕ) → 3 ≤ u → 8 + 16 * min ((u - 1) / 2) 3 ≤ 8 * u
 count_fits_lem u h = omega (arith, div-mul-le_self (u - 1) 2)
 
--- at a place of the area, where the code has read the Length
-module _ (area : List ℕ) (at n : ℕ) (e : n ≡ get_or area (at + 1) 0 * 8) (h : at < length area) where
-  length_at : n ≡ length_of (drop at area) * 8
-  length_at = e ∙ ap (λ (x : ℕ). x * 8) (sym (get_or-drop at area 1 0))
+-- what an area begins with, by its Length
+module _ (w : List ℕ) where
+  no_option : 0 < length w → is_whole 0 w ≡ false → Ends w
+  no_option z f = record { whole = f ∙ sym (ne_eqb (length w) 0 (λ e. absurd (omega arith))); none = λ t. absurd (false≢true (sym f ∙ t)) }
 
-  pub zero_at : n ≡ 0 → is_whole 0 (drop at area) ≡ false
-  zero_at z = whole_zero (drop at area) (omega (arith, length-drop at area)) (sym length_at ∙ z)
+  pub ends_zero : 0 < length w → length_of w * 8 ≡ 0 → Ends w
+  ends_zero z h = no_option z (whole_zero w z h)
 
-  pub long_at : length area < at + n → is_whole 0 (drop at area) ≡ false
-  long_at k = whole_long (drop at area) (omega (arith, length-drop at area)) (omega (arith, length_at, length-drop at area))
+  pub ends_long : length w < length_of w * 8 → 0 < length w → Ends w
+  ends_long h z = no_option z (whole_long w z h)
 
-  pub first_at : is_whole 0 (drop at area) ≡ true → (0 < n) × (at + n ≤ length area)
-  first_at w =
-      let p = whole_first (drop at area) (omega (arith, length-drop at area)) w in
-      (omega (arith, length_at, p.0), omega (arith, length_at, p.1, length-drop at area))
+  pub splits : (n : ℕ) → n ≡ length_of w * 8 → 0 < n → n ≤ length w → Splits w (take n w) (drop n w)
+  splits n e z h =
+      let k = length-take-le n w h in
+      let g = get_or-take n w 1 0 (omega arith) in
+      record {
+        whole = whole_step w n e z h;
+        options = options_step w n e z h;
+        shorter = omega (arith, length-drop n w);
+        fits = record { whole = omega (arith, k, g, e) };
+      }
 
-  module _ (z : 0 < n) (f : at + n ≤ length area) where
-    pub whole_at : is_whole 0 (drop at area) ≡ is_whole 0 (drop (at + n) area)
-    whole_at = whole_step (drop at area) n length_at z (omega (arith, length-drop at area)) ∙ ap (is_whole 0) (drop-drop n at area)
-
-    pub options_at : options 0 (drop at area) ≡ take n (drop at area) ∷ options 0 (drop (at + n) area)
-    options_at = options_step (drop at area) n length_at z (omega (arith, length-drop at area)) ∙ ap (λ (r : List ℕ). take n (drop at area) ∷ options 0 r) (drop-drop n at area)
-
-    pub part_at : take (at + n - at) (drop at area) ≡ take n (drop at area)
-    part_at =
-        let d : at + n - at ≡ n = omega arith in
-        ap (λ (k : ℕ). take k (drop at area)) d
-
-    pub part_fits : OptionFits (take (at + n - at) (drop at area))
-    part_fits =
-        let k = length-take-le n (drop at area) (omega (arith, length-drop at area)) in
-        let g = get_or-take n (drop at area) 1 0 (omega (arith, length_at)) in
-        rw part_at (record { whole = omega (arith, k, g, length_at) })
-
-pub whole_out : (area : List ℕ) (at : ℕ) → length area ≤ at → is_whole 0 (drop at area) ≡ true
-whole_out area at h = ap (is_whole 0) (drop_of_length-le area h) ∙ whole_end
-
-pub options_out : (area : List ℕ) (at : ℕ) → length area ≤ at → options 0 (drop at area) ≡ []
-options_out area at h = ap (options 0) (drop_of_length-le area h) ∙ options_end
-
-pub positive : (n : ℕ) → (n ≡ 0 → ⊥) → 0 < n
-positive zero h = absurd (h refl)
-positive (suc n) h = omega arith
+pub ends_short : (w : List ℕ) → length w < 2 → Ends w
+ends_short [] h = record { whole = whole_end; none = λ _. options_end }
+ends_short (t ∷ []) h = ends_zero (t ∷ []) (omega arith) refl
+ends_short (t ∷ u ∷ s) h = absurd (omega arith)

@@ -11,14 +11,15 @@ use borrow.Author.Tests.{le-leb, lt-leb, eq-eqb, ne_eqb}
 use Rattle.clock.specs.declared.Moment.{Moment}
 use Rattle.clock.specs.declared.Span.{Span}
 use Rattle.entries.specs.Entries.{Kind, places, removed, named_all}
-use Rattle.entries.specs.declared.Moments.{Moments}
 use Rattle.entries.proofs.MarkLaws.{withdrawn_all, all_fits}
 use Rattle.serverlist.specs.Servers.{held, packed}
 use Rattle.serverlist.specs.declared.ServerList.{ServerList}
 use Rattle.rdnss.specs.Area.{is_whole, is_area, is_acting, addresses, named_by}
 use Rattle.rdnss.specs.Options.{is_withdrawing, moments_of, option_applied}
+use Rattle.rdnss.specs.declared.Refusal.{Refusal}
+use Rattle.rdnss.specs.declared.Refusal.TheVariants.{NotSound, NotTimely, NoLifetime, NotWhole}
+use Rattle.rdnss.specs.Refusals.{number}
 use Rattle.rdnss.specs.ServerList.{servers_after, answer, first_refusal, refusal_of, server_list}
-use Rattle.rdnss.proofs.NamingLaws.{unmarked_items}
 
 -- an option names the addresses that count where it acts, and none where it does not
 pub named_none : (v : List ℕ) → is_acting v ≡ false → named_by v ≡ []
@@ -43,11 +44,6 @@ module _ (clock : Moment) (router : Span) where
     pub renames : is_withdrawing router v ≡ false → option_applied clock router kind names l v ≡ named_all kind false (moments_of clock router v) (names v) l
     unfolding option_applied
     renames z = ap (λ (b : Bool). named_all kind b (moments_of clock router v) (names v) l) z
-
--- an option that names nothing changes nothing
-pub names_nothing : {K E : Type 0} (kind : Kind K E) (gone : Bool) (x : Moments) (l : List E) → named_all kind gone x [] l ≡ l
-unfolding named_all
-names_nothing kind gone x l = unmarked_items l
 
 pub area_long : (area : List ℕ) → 1500 < length area → is_area area ≡ false
 unfolding is_area
@@ -98,8 +94,12 @@ none_applies true true false w h = absurd (omega (arith, h, first_router true tr
 none_applies true false l w h = absurd (omega (arith, h, first_15 true false l w refl refl))
 none_applies false t l w h = absurd (omega (arith, h, first_31 false t l w refl))
 
-pub first_same : {s t l w s' t' l' w' : Bool} → s ≡ s' → t ≡ t' → l ≡ l' → w ≡ w' → first_refusal s t l w ≡ first_refusal s' t' l' w'
-first_same a b c d = rw (a, b, c, d)
+-- a refusal has a number
+pub numbered : (r : Refusal) → number r ≡ 0 → ⊥
+numbered NotSound e = omega arith
+numbered NotTimely e = omega arith
+numbered NoLifetime e = omega arith
+numbered NotWhole e = omega arith
 
 -- the two ways of the call
 module _ (list : ServerList) (clock : Moment) (router : Span) (area : List ℕ) where

@@ -3,5 +3,6 @@ pub mod Area
 pub mod Options
 pub mod ServerList
 pub mod Places
+pub mod Refusals
 pub mod Grammar
 pub mod Claims

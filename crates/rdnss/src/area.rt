@@ -1,37 +1,38 @@
 // The option area of a router: tested whole first, and then applied.
-ghost use Rattle.std.specs.Prelude.{◌≡◌, true};
+ghost use Rattle.std.specs.Prelude.{◌≡◌, true, MatchOption};
 ghost use Rattle.entries.specs.Places.{InPlaces};
 ghost use Rattle.serverlist.specs.Places.{server_places};
 ghost use Rattle.rdnss.specs.Area.{is_whole, is_area};
-ghost use Rattle.rdnss.specs.Places.{Applies};
+ghost use Rattle.rdnss.specs.Places.{Applies, Splits, Ends};
 
 use crate::option;
-use clock::{Moment, Span};
+use crate::option::Arrival;
 use serverlist::ServerList;
 
 // The most octets that an area may have.
 pub const MOST: usize = 1500;
 
+// The option that an area begins with, and the area behind it; none where the area is empty, or the
+// option has Length 0 or runs past the end.
+fn split_option(area: &[u8]) -> Option<(&[u8], &[u8])>
+    ensures { MatchOption result (Ends area.now) (λ p. Splits area.now p.0.now p.1.now) }
+{
+    let size = usize::from(*area.get(1)?) * 8;
+    if size == 0 {
+        return None;
+    }
+    area.split_at_checked(size)
+}
+
 // Whether no option of an area has Length 0 or runs past the end.
 fn is_whole(area: &[u8]) -> bool
     ensures { result ≡ is_whole 0 area.now }
 {
-    let mut at: usize = 0;
-    while at < area.len() {
-        let rest = area.len() - at;
-        if rest < 2 {
-            return false;
-        }
-        let size = area[at + 1] as usize * 8;
-        if size == 0 {
-            return false;
-        }
-        if rest < size {
-            return false;
-        }
-        at += size;
+    let mut rest = area;
+    while let Some((_, behind)) = split_option(rest) {
+        rest = behind;
     }
-    true
+    rest.is_empty()
 }
 
 // Whether an area is no longer than an area may be, and whole: refusal 16 is for those that are not.
@@ -39,27 +40,17 @@ fn is_whole(area: &[u8]) -> bool
 pub(crate) fn is_area(area: &[u8]) -> bool
     ensures { result ≡ is_area area.now }
 {
-    if MOST < area.len() {
-        return false;
-    }
-    is_whole(area)
+    area.len() <= MOST && is_whole(area)
 }
 
 // Each option of a whole area applied, from the first to the last.
-pub(crate) fn apply_all(l: ServerList, area: &[u8], clock: Moment, router: Span) -> ServerList
-    requires { InPlaces server_places l × (is_whole 0 area.now ≡ true) }
-    ensures { Applies l clock router area.now result }
+pub(crate) fn apply_all(l: &mut ServerList, area: &[u8], arrival: Arrival)
+    requires { InPlaces server_places l.old × (is_whole 0 area.now ≡ true) }
+    ensures { Applies l.old arrival.clock arrival.router area.now l.new }
 {
-    let mut m = l;
-    let mut at: usize = 0;
-    while at < area.len() {
-        let end = at + area[at + 1] as usize * 8;
-        if option::is_withdrawing(&area[at..end], router) {
-            m = option::withdraw(m, &area[at..end]);
-        } else {
-            m = option::name(m, &area[at..end], clock, router);
-        }
-        at = end;
+    let mut rest = area;
+    while let Some((option, behind)) = split_option(rest) {
+        option::apply(l, option, arrival);
+        rest = behind;
     }
-    m
 }

@@ -7,8 +7,10 @@ pub mod option;
 
 ghost use Rattle.std.specs.Prelude.{◌≡◌};
 ghost use Rattle.rdnss.specs.Options.{is_router_lifetime};
-ghost use Rattle.rdnss.specs.ServerList.{answer, first_refusal, server_list};
+ghost use Rattle.rdnss.specs.ServerList.{server_list};
+ghost use Rattle.rdnss.specs.Refusals.{number, Checked, Updated};
 
+use crate::option::Arrival;
 use clock::{Moment, Span};
 use serverlist::{ServerList, expiry, form};
 
@@ -23,13 +25,25 @@ pub struct ServerListAnswer {
     pub list: ServerList,
 }
 
-// A refusal and the list as it was handed in.
-fn refused(refusal: u32, list: ServerList) -> ServerListAnswer
-    ensures { result ≡ answer refusal list }
-{
-    ServerListAnswer {
-        refusal: refusal,
-        list: list,
+// Why a call is refused.
+#[derive(Clone, Copy, PartialEq, Eq, Debug)]
+pub(crate) enum Refusal {
+    NotSound,
+    NotTimely,
+    NoLifetime,
+    NotWhole,
+}
+
+impl From<Refusal> for u32 {
+    ghost from_gives = { λ r n. n ≡ number r };
+
+    // The number that stands for it in an answer.
+    fn from(refusal: Refusal) -> u32 {
+        match refusal {
+            Refusal::NotSound => 31,
+            Refusal::NotTimely | Refusal::NoLifetime => 15,
+            Refusal::NotWhole => 16,
+        }
     }
 }
 
@@ -40,24 +54,33 @@ fn is_router_lifetime(router: Span) -> bool
     router.0 <= MOST_LIFETIME
 }
 
-// The refusals in their order; 0 where none applies.
-#[tactic(auto, unfolding(crate::specs::ServerList::first_refusal))]
-fn first_refusal(sound: bool, timely: bool, lasting: bool, whole: bool) -> u32
-    ensures { result ≡ first_refusal sound timely lasting whole }
+// Whether a call is refused, and by which of the refusals in their order.
+fn check(list: &ServerList, arrival: Arrival, area: &[u8]) -> Result<(), Refusal>
+    ensures { Checked list.now arrival.clock arrival.router area.now result }
 {
-    if !sound {
-        return 31;
+    if !form::is_sound(list) {
+        return Err(Refusal::NotSound);
     }
-    if !timely {
-        return 15;
+    if !form::is_timely(list, arrival.clock) {
+        return Err(Refusal::NotTimely);
     }
-    if !lasting {
-        return 15;
+    if !is_router_lifetime(arrival.router) {
+        return Err(Refusal::NoLifetime);
     }
-    if !whole {
-        return 16;
+    if !area::is_area(area) {
+        return Err(Refusal::NotWhole);
     }
-    0
+    Ok(())
+}
+
+// The list after an area, if the call is not refused.
+fn updated(list: &ServerList, arrival: Arrival, area: &[u8]) -> Result<ServerList, Refusal>
+    ensures { Updated list.now arrival.clock arrival.router area.now result }
+{
+    check(list, arrival, area)?;
+    let mut l = expiry::without_expired(list, arrival.clock);
+    area::apply_all(&mut l, area, arrival);
+    Ok(l)
 }
 
 // The list after a router's option area has come in at a clock. Refused are, in this order: a list
@@ -72,18 +95,11 @@ pub fn jespurla_server_list(
 ) -> ServerListAnswer
     ensures { result ≡ server_list list clock router area.now }
 {
-    let sound = form::is_sound(list);
-    let timely = form::is_timely(list, clock);
-    let lasting = is_router_lifetime(router);
-    let whole = area::is_area(area);
-    let refusal = first_refusal(sound, timely, lasting, whole);
-    if refusal != 0 {
-        return refused(refusal, list);
-    }
-    let unexpired = expiry::without_expired(list, clock);
-    let applied = area::apply_all(unexpired, area, clock, router);
-    ServerListAnswer {
-        refusal: 0,
-        list: applied,
+    match updated(&list, Arrival { clock, router }, area) {
+        Ok(list) => ServerListAnswer { refusal: 0, list },
+        Err(refusal) => ServerListAnswer {
+            refusal: refusal.into(),
+            list,
+        },
     }
 }

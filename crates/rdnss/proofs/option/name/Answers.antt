@@ -1,43 +1,73 @@
-use Rattle.std.proofs.Common.{ℕ, List, false, drop, get_or, sym, ap, ◌∙◌, arith}
-use Rattle.clock.specs.Clock.{span}
-use Rattle.entries.specs.Entries.{moments_after, named_all}
+use Rattle.std.proofs.Common.{◌≡◌, ◌+◌, ◌<◌, ℕ, List, [], ◌∷◌, false, refl, map, length, drop, get_or, sym, ap, ◌∙◌, arith, add-one, drop-cons}
+use mathlib.Core.List.{foldl}
+use lib.ListN.{drop_of_length-le}
+use Rattle.entries.specs.Entries.{Marked, is_about, named, named_all}
+use Rattle.entries.specs.Places.{Holds, marked, place, replace_at}
 use Rattle.entries.specs.declared.Moments.{Moments}
+use Rattle.entries.proofs.LibraryLaws.{found_place, no_place}
+use Rattle.entries.proofs.MarkLaws.{marked_items, marked_none}
+use Rattle.entries.proofs.PackLaws.{set_packed, held_at, held_length, full_length}
+use Rattle.entries.proofs.InsertLaws.{found, missing}
 use Rattle.serverlist.specs.Servers.{servers, held, packed}
-use Rattle.serverlist.specs.declared.Address6.{Address6}
-use Rattle.rdnss.specs.Area.{addresses, addresses_from}
-use Rattle.rdnss.specs.Options.{moments_of}
-use Rattle.rdnss.proofs.AreaLaws.{acting_length, count_fits_lem}
-use Rattle.rdnss.proofs.CallLaws.{named_none, named_if, names_nothing}
+use Rattle.serverlist.specs.Places.{server_places}
+use Rattle.serverlist.specs.declared.Server.{Server}
+use Rattle.serverlist.specs.declared.ServerList.{ServerList}
+use Rattle.rdnss.specs.Places.{address}
 use Rattle.rdnss.proofs.option.name.Goals as goal
+use Rattle.rdnss.proofs.option.name.Goals.{in-Some, in_default}
 
-pub returns-then-not-is_acting : goal.returns-then-not-is_acting
-returns-then-not-is_acting c =
-    let l = c.args.l in
-    let v = c.args.option.now in
-    let x = moments_of c.args.clock c.args.router v in
-    let n = named_none v (sym c.is_acting.ensures ∙ c.if-not-is_acting.true) in
-    c.requires.0.packs ∙ ap (packed l.clock) (sym (ap (λ (keys : List Address6). named_all servers false x keys (held l)) n ∙ names_nothing servers false x (held l)))
+-- one address more, renewed or inserted
+again : (l m : ServerList) (names : List (List ℕ)) (i own : ℕ) (d : List ℕ) (x : Moments) → i < length names → m.clock ≡ l.clock
+    → foldl (named servers false x) (marked 0 (held l)) (map address names) ≡ foldl (named servers false x) (marked own (held m)) (map address (drop i names))
+    → (r : ServerList) (more : ℕ) → Holds server_places m.clock (named servers false x (marked own (held m)) (address (get_or names i d))) r more
+    → (r.clock ≡ l.clock)
+    × (foldl (named servers false x) (marked 0 (held l)) (map address names) ≡ foldl (named servers false x) (marked more (held r)) (map address (drop (i + 1) names)))
+again l m names i own d x h k f r more e =
+    let q : map address (drop i names) ≡ address (get_or names i d) ∷ map address (drop (i + 1) names) = rw (add-one, drop-cons names i d h) in (
+      e.rested ∙ k,
+      f ∙ ap (foldl (named servers false x) (marked own (held m))) q
+          ∙ ap (λ (t : List (Marked Server)). foldl (named servers false x) t (map address (drop (i + 1) names))) (sym e.holds),
+    )
 
-pub bounds-option-1 : goal.bounds-option-1
-bounds-option-1 c = omega (arith, c.requires.1.whole, acting_length c.args.option.now (sym c.is_acting.ensures ∙ c.if-not-is_acting.false))
-
-pub address_count-n-requires : goal.address_count-n-requires
-address_count-n-requires c = acting_length c.args.option.now (sym c.is_acting.ensures ∙ c.if-not-is_acting.false)
-
-pub name_all-requires : goal.name_all-requires
-name_all-requires c =
-    let v = c.args.option.now in
-    let a = acting_length v (sym c.is_acting.ensures ∙ c.if-not-is_acting.false) in
-    (c.requires.0, omega (arith, c.requires.1.whole, c.address_count-n.ensures, count_fits_lem (get_or v 1 0) a))
+pub loop-octets-preserved : goal.loop-octets-preserved
+loop-octets-preserved c =
+    let s = c.args in
+    let l = c.loop-octets in
+    let h = l.invariant in
+    let i = h.ready.list in
+    let n = held_length server_places i in
+    elim c.match-find.branch [
+      | in-Some w ↦
+          let k = w.in-Some.k in
+          let f = found_place _ (held l.l) k (sym w.in-Some.ensures) in
+          let t : k < l.l.count = omega (arith, f.1, n) in
+          let e =
+          found servers server_places l.l l.own h.ready _ s.x k f.0 t
+          (w.l-is ∙ set_packed server_places i k _ t ∙ ap (λ (e : Server). packed l.l.clock (replace_at k e (held l.l))) (w.renew.ensures ∙ ap (servers.renew s.x) (held_at server_places l.l k _ t (omega (arith, full_length server_places i, i.within)))))
+          in
+          let a = again s.l.now l.l c.named_by-octets-items.result.now l.octets-index l.own _ s.x c.loop-octets-test.true h.clock h.left _ _ e in
+          rw w.own-is (record { ready = e.ready; clock = a.0; left = a.1 })
+      | in_default w ↦
+          let f = no_place _ (held l.l) (sym w.in_default.ensures) in
+          let k = address (get_or c.named_by-octets-items.result.now l.octets-index []) in
+          let e = missing servers server_places l.l l.own h.ready k s.x (place (is_about servers k) (held l.l)) refl (omega (arith, f, n)) w.insert-own.ensures in
+          let a = again s.l.now l.l c.named_by-octets-items.result.now l.octets-index l.own _ s.x c.loop-octets-test.true h.clock h.left _ _ e in
+          rw (w.l-is, w.own-is) (record { ready = e.ready; clock = a.0; left = a.1 })
+    ]
 
 pub returns : goal.returns
+unfolding named_all
 returns c =
     let s = c.args in
-    let v = s.option.now in
-    let l = s.l in
-    let x = moments_of s.clock s.router v in
-    let m = c.moments_after-x.ensures ∙ ap (λ (n : ℕ). moments_after s.clock (span n) s.router) c.u32_at.ensures in
-    c.name_all.ensures
-    ∙ ap (λ (n : ℕ). packed l.clock (named_all servers false c.moments_after-x.result (addresses_from n (drop 8 v)) (held l))) c.address_count-n.ensures
-    ∙ ap (λ (y : Moments). packed l.clock (named_all servers false y (addresses v) (held l))) m
-    ∙ ap (λ (keys : List Address6). packed l.clock (named_all servers false x keys (held l))) (sym (named_if v (sym c.is_acting.ensures ∙ c.if-not-is_acting.false)))
+    let l = c.loop-octets in
+    let h = l.invariant in
+    let items = c.named_by-octets-items.result.now in
+    let k = held s.l.now in
+    let d : drop l.octets-index items ≡ [] = drop_of_length-le items (omega arith) in
+    h.ready.list.packs
+    ∙ rw h.clock
+    (ap (packed s.l.now.clock)
+    (sym (marked_items l.own (held l.l))
+    ∙ ap (map (λ m. m.item)) (sym (h.left ∙ ap (λ (x : List (List ℕ)). foldl (named servers false s.x) (marked l.own (held l.l)) (map address x)) d)
+    ∙ ap (λ (t : List (Marked Server)). foldl (named servers false s.x) t (map address items)) (marked_none k)
+    ∙ ap (foldl (named servers false s.x) (map (λ e. record { item = e; own = false }) k)) c.named_by-octets-items.ensures)))
