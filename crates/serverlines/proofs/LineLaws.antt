@@ -1,20 +1,19 @@
 -- The laws of the lines of an answer. Assumes nothing.
-use mathlib.Core.Path.{◌≡◌, refl, sym, ap, subst, ◌∙◌}
+use mathlib.Core.Path.{◌≡◌, refl, sym, ap, ◌∙◌}
 use mathlib.Core.Bool.{Bool, true, false, cond}
 use mathlib.Core.List.{List, [], ◌∷◌, ◌++◌, append_assoc, append-nil}
-use Prim.Native.Nat.{ℕ, ◌+◌, ◌-◌, ◌*◌, ◌≤◌, ◌<◌, min}
+use Prim.Native.Nat.{ℕ, ◌+◌, ◌*◌, ◌≤◌, ◌<◌}
 use native.Mathlib.Omega.{arith}
 use native.Mathlib.Numerals.{add-one}
 use lib.Dec.{leb, eqb}
-use borrow.Author.Tests.{leb-true, leb-false}
+use borrow.Author.Tests.{leb-true}
 use lib.ListN.{length, take, drop, get_or, length-append}
-use lib.Seq.{take-suc, take_all, take_at, length-take-le}
+use lib.Seq.{take-suc, take_at}
 use Rattle.entries.specs.Entries.{expires}
 use Rattle.rdnss.specs.declared.ServerListAnswer.{ServerListAnswer}
 use Rattle.serverlist.specs.Servers.{servers, held}
 use Rattle.serverlist.specs.declared.Server.{Server}
-use Rattle.serverlist.specs.declared.ServerList.{ServerList}
-use Rattle.octets.specs.Write.{put, laid_at, next_at, laid, Laid, Wrote, WroteIf}
+use Rattle.octets.specs.Write.{put, laid_at, next_at, laid, Laid, Wrote}
 use Rattle.octets.proofs.WriteLaws.{nothing, then, put_front, length_put, wrote_length}
 use Rattle.text.specs.Text.{ascii, decimal, hex}
 use Rattle.text.proofs.TextLaws.{decimal_is_short, two_an_octet}
@@ -44,10 +43,6 @@ word_short w n e h =
     let u : length ((w ++ decimal n) ++ ascii "\n") ≡ length (w ++ decimal n) + 1 = length-append (w ++ decimal n) (ascii "\n") in
     omega arith
 
-pub refusal_short : (n : ℕ) → n < 18446744073709551616 → length (refusal_line n) ≤ 512
-unfolding refusal_line ascii
-refusal_short n h = omega (arith, word_short (ascii "refused ") n refl h)
-
 -- the lines of one server more
 lines_more : (l : List Server) (e : Server) → server_lines (l ++ (e ∷ [])) ≡ server_lines l ++ server_line e
 unfolding server_lines
@@ -68,28 +63,16 @@ module _ {b : List ℕ} {at : ℕ} {m : List ℕ} {n : ℕ} {k : List ℕ} {p : 
         short = omega (arith, v.short, w.short, length-append (server_lines (take i l)) (server_line (get_or l i d)));
       })
 
--- as many entries as there are places, or as are counted
-pub held_min : (c n : ℕ) (l : List Server) → length l ≡ 8 → n ≡ min c 8 → take n l ≡ take c l
-held_min c n l e m = go (leb c 8) refl
-  where
-    go : (b : Bool) → leb c 8 ≡ b → take n l ≡ take c l
-    go true q = let h : c ≤ 8 = leb-true c 8 q in let z : n ≡ c = omega arith in ap (λ (k : ℕ). take k l) z
-    go false q =
-        let h : 8 < c = leb-false c 8 q in
-        take_all n l (omega arith) ∙ sym (take_all c l (omega arith))
-
 -- the whole of a list
-pub list_put : {b : List ℕ} {at : ℕ} {m : List ℕ} {k : ℕ} {o : List ℕ} {r : ℕ} (l : ServerList) (n : ℕ) → length l.entries ≡ 8 → n ≡ min l.count 8
-    → WroteIf b at (line (ascii "servers " ++ decimal n)) m k → PutWithin (54 * n) m k (server_lines (take n l.entries)) o r → PutWithin 512 b at (list_lines (held l)) o r
-unfolding list_lines ascii
-list_put {b} {at} {m} {k} {o} {r} l n e q v w =
-    let head : ℕ → List ℕ = λ j. line (ascii "servers " ++ decimal j) in
-    let t : take n l.entries ≡ held l = held_min l.count n l.entries e q in
-    let c : n ≡ length (held l) = sym (length-take-le n l.entries (omega arith)) ∙ ap length t in
-    let s : length (head n) ≤ 29 = word_short (ascii "servers ") n refl (omega arith) in
-    let z : length (head n ++ server_lines (take n l.entries)) ≤ 512 = omega (arith, w.short, length-append (head n) (server_lines (take n l.entries))) in
-    let y : head n ++ server_lines (take n l.entries) ≡ head (length (held l)) ++ server_lines (held l) = ap (λ (j : ℕ). head j ++ server_lines (take n l.entries)) c ∙ ap (λ (s : List Server). head (length (held l)) ++ server_lines s) t in
-    subst (λ (ys : List ℕ). PutWithin 512 b at ys o r) y (record { wrote = then v w.wrote; short = z })
+pub list_put : {b : List ℕ} {at : ℕ} {m : List ℕ} {k : ℕ} {o : List ℕ} {r : ℕ} (l : List Server) → length l ≤ 8
+    → PutWithin 29 b at (line (ascii "servers " ++ decimal (length l))) m k → PutWithin (54 * length l) m k (server_lines l) o r → PutWithin 512 b at (list_lines l) o r
+unfolding list_lines
+list_put l e v w = record { wrote = then v.wrote w.wrote; short = omega (arith, v.short, w.short, length-append (line (ascii "servers " ++ decimal (length l))) (server_lines l)) }
+
+-- the line of a refusal
+pub refusal_put : {b : List ℕ} {at : ℕ} {m : List ℕ} {k : ℕ} (n : ℕ) → PutWithin 29 b at (line (ascii "refused " ++ decimal n)) m k → PutWithin 512 b at (refusal_line n) m k
+unfolding refusal_line
+refusal_put n v = record { wrote = v.wrote; short = omega (arith, v.short) }
 
 -- what stands at the front of a buffer with room for it
 pub record Front (ys lines : List ℕ) (n : ℕ) : Type 0 where

@@ -2,16 +2,16 @@
 
 #![tactic(auto)]
 
-ghost use Rattle.std.specs.Prelude.{◌*◌, ◌≤◌, min, ◌≡◌, take};
+ghost use Rattle.std.specs.Prelude.{◌*◌, ◌≤◌, ◌++◌, length};
 ghost use Rattle.octets.specs.Write.{Laid};
 ghost use Rattle.entries.specs.Entries.{places};
-ghost use Rattle.serverlist.specs.Servers.{held};
-ghost use Rattle.serverlines.specs.Lines.{server_line, server_lines, list_lines, refusal_line, answer_lines, area_lines};
+ghost use Rattle.text.specs.Text.{decimal};
+ghost use Rattle.serverlines.specs.Lines.{line, server_line, server_lines, list_lines, refusal_line, answer_lines, area_lines};
 ghost use Rattle.serverlines.specs.Inner.{PutWithin};
 
 use clock::{Moment, Span};
 use rdnss::ServerListAnswer;
-use serverlist::{PLACES, Server, ServerList, entry};
+use serverlist::{Server, entry};
 
 // The lifetime of the router whose area the program applies.
 const ROUTER_LIFETIME: u32 = 1800;
@@ -23,54 +23,47 @@ pub const MOST: usize = 512;
 fn put_server(buf: &mut [u8], at: usize, e: Server) -> usize
     ensures { PutWithin 54 buf.old at (server_line e) buf.new result }
 {
-    let a = e.address;
-    let x = entry::expires(e);
-    let blank = text::hex::put_hex(buf, at, &a.octets);
+    let blank = text::hex::put_hex(buf, at, &e.address.octets);
     let seconds = octets::write::put_octet(buf, blank, b' ');
-    let end = text::decimal::put_decimal(buf, seconds, x.0);
+    let end = text::decimal::put_decimal(buf, seconds, entry::expires(e).0);
     octets::write::put_octet(buf, end, b'\n')
 }
 
-// A line for each of the first n entries.
-fn put_servers(buf: &mut [u8], at: usize, l: ServerList, n: usize) -> usize
-    requires { n ≤ places }
-    ensures { PutWithin (54 * n) buf.old at (server_lines (take n l.entries)) buf.new result }
+// A line for each of some entries.
+fn put_servers(buf: &mut [u8], at: usize, entries: &[Server]) -> usize
+    requires { length entries.now ≤ places }
+    ensures { PutWithin (54 * length entries.now) buf.old at (server_lines entries.now) buf.new result }
 {
     let mut end = at;
-    let mut i: usize = 0;
-    while i < n {
-        let e = l.entries[i];
-        end = put_server(buf, end, e);
-        i += 1;
+    for e in entries {
+        end = put_server(buf, end, *e);
     }
     end
 }
 
-// How many entries a list with this count holds: no more than it has places.
-fn held_count(count: usize) -> usize
-    ensures { result ≡ min count places }
+// The line of a word and a number.
+fn put_count(buf: &mut [u8], at: usize, word: &[u8; 8], n: u64) -> usize
+    ensures { PutWithin 29 buf.old at (line (word.now ++ decimal n)) buf.new result }
 {
-    if count < PLACES { count } else { PLACES }
+    let number = octets::write::put_octets(buf, at, word);
+    let line_end = text::decimal::put_decimal(buf, number, n);
+    octets::write::put_octet(buf, line_end, b'\n')
 }
 
 // The line with the count, then a line for each server.
-fn put_list(buf: &mut [u8], at: usize, l: ServerList) -> usize
-    ensures { PutWithin 512 buf.old at (list_lines (held l)) buf.new result }
+fn put_list(buf: &mut [u8], at: usize, entries: &[Server]) -> usize
+    requires { length entries.now ≤ places }
+    ensures { PutWithin 512 buf.old at (list_lines entries.now) buf.new result }
 {
-    let n = held_count(l.count);
-    let count = octets::write::put_octets(buf, at, b"servers ");
-    let end = text::decimal::put_decimal(buf, count, n as u64);
-    let first = octets::write::put_octet(buf, end, b'\n');
-    put_servers(buf, first, l, n)
+    let first = put_count(buf, at, b"servers ", entries.len() as u64);
+    put_servers(buf, first, entries)
 }
 
 // The line of a refusal.
 fn put_refusal(buf: &mut [u8], at: usize, refusal: u32) -> usize
     ensures { PutWithin 512 buf.old at (refusal_line refusal) buf.new result }
 {
-    let number = octets::write::put_octets(buf, at, b"refused ");
-    let end = text::decimal::put_decimal(buf, number, refusal as u64);
-    octets::write::put_octet(buf, end, b'\n')
+    put_count(buf, at, b"refused ", u64::from(refusal))
 }
 
 // The lines of an answer, where there is room for them.
@@ -78,11 +71,10 @@ fn put_refusal(buf: &mut [u8], at: usize, refusal: u32) -> usize
 fn put_lines(buf: &mut [u8], at: usize, answer: ServerListAnswer) -> usize
     ensures { PutWithin 512 buf.old at (answer_lines answer) buf.new result }
 {
-    let refusal = answer.refusal;
-    if refusal != 0 {
-        return put_refusal(buf, at, refusal);
+    if answer.refusal != 0 {
+        return put_refusal(buf, at, answer.refusal);
     }
-    put_list(buf, at, answer.list)
+    put_list(buf, at, answer.list.held())
 }
 
 // The lines of an answer. All of it is written, or nothing; the place behind it is answered, or the
