@@ -13,9 +13,10 @@ use Rattle.dname.specs.declared.Shape.TheVariants.{Empty, Full, Partial, Malform
 use Rattle.dname.proofs.GrammarLaws.{name_full}
 use Rattle.dname.proofs.CompletionLaws.{completed_full}
 use Rattle.fqdn.specs.Flags.{flag_answer}
-use Rattle.fqdn.specs.Answer.{by_name, by_suffix, by_flags, by_value, answer_of, octets_of, Room}
-use Rattle.fqdn.specs.declared.answer.NameAnswer.{NameAnswer}
-use Rattle.fqdn.specs.declared.answer.NameAnswer.TheVariants.{Refused, Whole, Completed}
+use Rattle.fqdn.specs.Answer.{Answer, by_name, by_suffix, by_flags, by_value, answer_of, octets_of, Room}
+use Rattle.std.specs.Prelude.{Ok, Err}
+use Rattle.fqdn.specs.declared.refusal.Refusal.TheVariants.{BadFlags, LongName, NoRoom}
+use Rattle.fqdn.specs.declared.answer.NameAnswer.TheVariants.{Whole, Completed}
 
 -- a fact of both ways of a test holds of the test's outcome
 on_cond : {A : Type 0} (P : A → Type 0) (b : Bool) (x y : A) → (b ≡ true → P x) → (b ≡ false → P y) → P (cond b x y)
@@ -28,10 +29,10 @@ pub record Good (value tail : List ℕ) : Type 0 where
   pub most : length value + length tail ≤ 256
   pub full : shape_of (drop 1 value ++ tail) ≡ Full
 
-unfoldable pub Fits : List ℕ → List ℕ → NameAnswer → Type 0
-Fits value suffix (Refused number) = Unit
-Fits value suffix (Whole flags) = Good value []
-Fits value suffix (Completed flags) = Good value suffix
+unfoldable pub Fits : List ℕ → List ℕ → Answer → Type 0
+Fits value suffix (Err why) = Unit
+Fits value suffix (Ok (Whole flags)) = Good value []
+Fits value suffix (Ok (Completed flags)) = Good value suffix
 
 module _ (f : ℕ) (name suffix : List ℕ) (flags : ℕ) where
   name_fits : (t : Shape) → shape_of name ≡ t → shape_of suffix ≡ Full → Fits (f ∷ name) suffix (by_name t flags name suffix)
@@ -40,7 +41,7 @@ module _ (f : ℕ) (name suffix : List ℕ) (flags : ℕ) where
   name_fits Malformed e u = tt
   name_fits Full e u = record { some = omega arith; most = omega (arith, (name_full name e).short); full = rw append-nil e }
   name_fits Partial e u =
-      on_cond (Fits (f ∷ name) suffix) (ltb 255 (length name + length suffix)) (Refused 13) (Completed flags) (λ _. tt)
+      on_cond (Fits (f ∷ name) suffix) (ltb 255 (length name + length suffix)) (Err LongName) (Ok (Completed flags)) (λ _. tt)
       (λ no. let h : length name + length suffix ≤ 255 = ltb-false 255 (length name + length suffix) no in record { some = omega arith; most = omega arith; full = completed_full name suffix e u h })
 
   suffix_fits : (t : Shape) → shape_of suffix ≡ t → Fits (f ∷ name) suffix (by_suffix t flags name suffix)
@@ -55,34 +56,34 @@ unfolding Fits by_value by_flags
 value_fits [] suffix s n = tt
 value_fits (f ∷ name) suffix s n =
     let decision = flag_answer f s n in
-    on_cond (Fits (f ∷ name) suffix) (eqb decision.refusal 0) (by_suffix (shape_of suffix) decision.flags name suffix) (Refused 10)
+    on_cond (Fits (f ∷ name) suffix) (eqb decision.refusal 0) (by_suffix (shape_of suffix) decision.flags name suffix) (Err BadFlags)
     (λ _. suffix_fits f name suffix decision.flags (shape_of suffix) refl) (λ _. tt)
 
 answer_fits : (value suffix : List ℕ) (s n room : ℕ) → Fits value suffix (answer_of value suffix s n room)
 unfolding Fits answer_of
-answer_fits value suffix s n room = on_cond (Fits value suffix) (ltb room 256) (Refused 14) (by_value value suffix s n) (λ _. tt) (λ _. value_fits value suffix s n)
+answer_fits value suffix s n room = on_cond (Fits value suffix) (ltb room 256) (Err NoRoom) (by_value value suffix s n) (λ _. tt) (λ _. value_fits value suffix s n)
 
 -- an answer is given only where the buffer has 256 octets
-answer_room : (value suffix : List ℕ) (s n room : ℕ) (a : NameAnswer) → answer_of value suffix s n room ≡ a → (a ≡ Refused 14 → ⊥) → 256 ≤ room
+answer_room : (value suffix : List ℕ) (s n room : ℕ) (a : Answer) → answer_of value suffix s n room ≡ a → (a ≡ Err NoRoom → ⊥) → 256 ≤ room
 unfolding answer_of
 answer_room value suffix s n room a e m = go (ltb room 256) refl e
   where
-    go : (b : Bool) → ltb room 256 ≡ b → cond b (Refused 14) (by_value value suffix s n) ≡ a → 256 ≤ room
+    go : (b : Bool) → ltb room 256 ≡ b → cond b (Err NoRoom) (by_value value suffix s n) ≡ a → 256 ≤ room
     go true q f = absurd (m (sym f))
     go false q f = ltb-false room 256 q
 
 module _ (value suffix : List ℕ) (s n room flags : ℕ) where
-  pub whole_room : answer_of value suffix s n room ≡ Whole flags → Room value [] room
+  pub whole_room : answer_of value suffix s n room ≡ Ok (Whole flags) → Room value [] room
   unfolding Fits
   whole_room e =
       let g : Good value [] = subst (Fits value suffix) e (answer_fits value suffix s n room) in
-      record { some = g.some; most = g.most; fit = answer_room value suffix s n room (Whole flags) e (λ q. let z : ◌≡◌ {A = ℕ} 0 1 = cc in omega arith) }
+      record { some = g.some; most = g.most; fit = answer_room value suffix s n room (Ok (Whole flags)) e (λ q. let z : ◌≡◌ {A = ℕ} 0 1 = cc in omega arith) }
 
-  pub completed_room : answer_of value suffix s n room ≡ Completed flags → Room value suffix room
+  pub completed_room : answer_of value suffix s n room ≡ Ok (Completed flags) → Room value suffix room
   unfolding Fits
   completed_room e =
       let g : Good value suffix = subst (Fits value suffix) e (answer_fits value suffix s n room) in
-      record { some = g.some; most = g.most; fit = answer_room value suffix s n room (Completed flags) e (λ q. let z : ◌≡◌ {A = ℕ} 0 1 = cc in omega arith) }
+      record { some = g.some; most = g.most; fit = answer_room value suffix s n room (Ok (Completed flags)) e (λ q. let z : ◌≡◌ {A = ℕ} 0 1 = cc in omega arith) }
 
 -- what is written has as many octets as the value and the tail
 pub octets_length : (flags : ℕ) (value tail : List ℕ) → 0 < length value → length (flags ∷ (drop 1 value ++ tail)) ≡ length value + length tail
@@ -94,7 +95,7 @@ pub answered_full : (value suffix : List ℕ) (s n room : ℕ) → let octets = 
 unfolding octets_of Fits
 answered_full value suffix s n room = go (answer_of value suffix s n room) (answer_fits value suffix s n room)
   where
-    go : (a : NameAnswer) → Fits value suffix a → 0 < length (octets_of a value suffix) → shape_of (drop 1 (octets_of a value suffix)) ≡ Full
-    go (Refused number) f h = absurd (omega arith)
-    go (Whole flags) f h = rw append-nil at f.full
-    go (Completed flags) f h = f.full
+    go : (a : Answer) → Fits value suffix a → 0 < length (octets_of a value suffix) → shape_of (drop 1 (octets_of a value suffix)) ≡ Full
+    go (Err why) f h = absurd (omega arith)
+    go (Ok (Whole flags)) f h = rw append-nil at f.full
+    go (Ok (Completed flags)) f h = f.full

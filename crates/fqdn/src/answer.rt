@@ -1,17 +1,17 @@
 // The server's answer to a name option.
 ghost use Rattle.std.specs.Prelude.{◌≡◌, ◌∷◌, ◌++◌, length, drop};
 ghost use Rattle.dname.specs.Name.{shape_of};
-ghost use Rattle.fqdn.specs.Answer.{by_name, answer_of, Room, Put, Answered};
+ghost use Rattle.fqdn.specs.Flags.{flag_answer};
+ghost use Rattle.fqdn.specs.Answer.{by_name, sent_flags, answer_of, Room, Put, Answered};
 
 use crate::flags;
+use crate::refusal::Refusal;
 use dname::Shape;
 use octets::write;
 
 // What an option value and a suffix come to.
-#[derive(Clone, Copy)]
+#[derive(Clone, Copy, PartialEq, Eq, Debug)]
 pub enum NameAnswer {
-    // Refused, with the refusal's number.
-    Refused(u8),
     // These flags, and the option's own name.
     Whole(u8),
     // These flags, and the option's name followed by the suffix.
@@ -21,48 +21,60 @@ pub enum NameAnswer {
 // What the call answers. refusal: 0 where there is none. length: how many octets of the reply are
 // written, 0 beside a refusal.
 #[repr(C)]
-#[derive(Clone, Copy)]
+#[derive(Clone, Copy, PartialEq, Eq, Debug)]
 pub struct NameOptionAnswer {
     pub refusal: u32,
     pub length: u32,
 }
 
 // By the name of the option, whose flags are answered so and whose suffix is a full name.
-fn by_name(flags: u8, name: &[u8], suffix: &[u8]) -> NameAnswer
+fn by_name(flags: u8, name: &[u8], suffix: &[u8]) -> Result<NameAnswer, Refusal>
     ensures { result ≡ by_name (shape_of name.now) flags name.now suffix.now }
 {
-    let shape = dname::shape_of(name);
-    match shape {
-        Shape::Empty => NameAnswer::Refused(12),
-        Shape::Malformed => NameAnswer::Refused(11),
-        Shape::Full => NameAnswer::Whole(flags),
+    match dname::shape_of(name) {
+        Shape::Empty => Err(Refusal::NoName),
+        Shape::Malformed => Err(Refusal::BadName),
+        Shape::Full => Ok(NameAnswer::Whole(flags)),
         Shape::Partial => {
             if 255 < name.len() + suffix.len() {
-                return NameAnswer::Refused(13);
+                return Err(Refusal::LongName);
             }
-            NameAnswer::Completed(flags)
+            Ok(NameAnswer::Completed(flags))
         }
     }
 }
 
+// The flags to send, or the refusal.
+fn sent_flags(flags: u8, honour_s: u8, honour_n: u8) -> Result<u8, Refusal>
+    ensures { result ≡ sent_flags (flag_answer flags honour_s honour_n) }
+{
+    let decision = flags::jespurla_flag_decision(flags, honour_s, honour_n);
+    if decision.refusal != 0 {
+        return Err(Refusal::BadFlags);
+    }
+    Ok(decision.flags as u8)
+}
+
 // For a reply buffer of so many octets: each refusal in its order.
-fn decide(value: &[u8], suffix: &[u8], honour_s: u8, honour_n: u8, room: usize) -> NameAnswer
+fn decide(
+    value: &[u8],
+    suffix: &[u8],
+    honour_s: u8,
+    honour_n: u8,
+    room: usize,
+) -> Result<NameAnswer, Refusal>
     ensures { result ≡ answer_of value.now suffix.now honour_s honour_n room }
 {
     if room < 256 {
-        return NameAnswer::Refused(14);
+        return Err(Refusal::NoRoom);
     }
-    if value.len() == 0 {
-        return NameAnswer::Refused(10);
-    }
-    let decision = flags::jespurla_flag_decision(value[0], honour_s, honour_n);
-    if decision.refusal != 0 {
-        return NameAnswer::Refused(10);
-    }
-    let shape = dname::shape_of(suffix);
-    match shape {
-        Shape::Full => by_name(decision.flags as u8, &value[1..], suffix),
-        _ => NameAnswer::Refused(11),
+    let Some((first, name)) = value.split_first() else {
+        return Err(Refusal::BadFlags);
+    };
+    let flags = sent_flags(*first, honour_s, honour_n)?;
+    match dname::shape_of(suffix) {
+        Shape::Full => by_name(flags, name, suffix),
+        _ => Err(Refusal::BadName),
     }
 }
 
@@ -76,10 +88,7 @@ fn put_name(reply: &mut [u8], flags: u8, value: &[u8], tail: &[u8]) -> NameOptio
     let rest = write::put_octets(reply, name, &value[1..]);
     let end = write::put_octets(reply, rest, tail);
     let length = end as u32;
-    NameOptionAnswer {
-        refusal: 0,
-        length: length,
-    }
+    NameOptionAnswer { refusal: 0, length }
 }
 
 // The server's answer to the value of a name option: writes the flags octet and the completed name
@@ -94,13 +103,12 @@ pub fn jespurla_name_option_answer(
 ) -> NameOptionAnswer
     ensures { Answered value.now suffix.now honour_s honour_n reply.old result reply.new }
 {
-    let answer = decide(value, suffix, honour_s, honour_n, reply.len());
-    match answer {
-        NameAnswer::Refused(number) => NameOptionAnswer {
-            refusal: number as u32,
+    match decide(value, suffix, honour_s, honour_n, reply.len()) {
+        Ok(NameAnswer::Whole(flags)) => put_name(reply, flags, value, &[]),
+        Ok(NameAnswer::Completed(flags)) => put_name(reply, flags, value, suffix),
+        Err(refusal) => NameOptionAnswer {
+            refusal: refusal.into(),
             length: 0,
         },
-        NameAnswer::Whole(flags) => put_name(reply, flags, value, &suffix[..0]),
-        NameAnswer::Completed(flags) => put_name(reply, flags, value, suffix),
     }
 }

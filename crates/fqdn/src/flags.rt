@@ -5,7 +5,7 @@ ghost use Rattle.fqdn.specs.Flags.{flag_answer};
 // The answer to a client's flags octet. refusal: 0 where there is none. flags: the flags octet to
 // send, 0 beside a refusal.
 #[repr(C)]
-#[derive(Clone, Copy)]
+#[derive(Clone, Copy, PartialEq, Eq, Debug)]
 pub struct FlagAnswer {
     pub refusal: u32,
     pub flags: u32,

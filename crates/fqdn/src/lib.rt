@@ -5,3 +5,4 @@
 
 pub mod answer;
 pub mod flags;
+pub mod refusal;
