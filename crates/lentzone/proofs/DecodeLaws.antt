@@ -1,16 +1,17 @@
 -- The laws of a zone in lent octets. Assumes nothing.
 use mathlib.Core.Path.{◌≡◌, refl, sym, ◌∙◌, ap}
-use mathlib.Core.Bool.{Bool, true, false, cond, not, ◌&&◌}
-use mathlib.Core.List.{List, [], ◌∷◌, ◌++◌, map, append_assoc, append-nil}
+use mathlib.Core.Bool.{Bool, true, false, cond, not, ◌&&◌, ◌||◌}
+use mathlib.Core.List.{List, [], ◌∷◌, ◌++◌, map, append_assoc}
 use Prim.Native.Nat.{ℕ, zero, suc, ◌+◌, ◌*◌, ◌-◌, ◌≤◌, ◌<◌}
 use native.Mathlib.Nat.{zero-add, add-zero, zero-mul, suc-mul, add_comm, add_assoc, mul-le-mul_right}
 use native.Mathlib.Omega.{arith}
 use lib.Dec.{leb}
 use borrow.Author.Tests.{le-leb, eq-eqb, ne_eqb}
-use lib.ListN.{length, get_or, set, take, drop, length-map, length-take, length-drop, drop_of_length-le, get_or-map}
+use lib.ListN.{length, get_or, set, take, drop, length-map, length-take, length-drop, get_or-map}
 use lib.Seq.{take_at, drop_at, drop-append-add, drop-drop, take-add, take-take, length-take-le, get_or-take, get_or-drop}
-use Rattle.octets.specs.Write.{put, Laid, Wrote}
-use Rattle.octets.proofs.WriteLaws.{written}
+use Rattle.std.specs.List.{list_any}
+use Rattle.std.specs.Simd.{first_chunks}
+use Rattle.octets.specs.Write.{put}
 use Rattle.octets.specs.Count.{Octets, distinct, member}
 use Rattle.addresses.specs.Addresses.{list4, list6, sound, Counted, listed}
 use Rattle.dname.specs.Name.{same_name, name_of, is_full}
@@ -19,19 +20,6 @@ use Rattle.zone.specs.Survey.{named}
 use Rattle.zone.specs.declared.entry.Entry.{Entry}
 use Rattle.zone.proofs.SurveyLaws.{blank, get_d_any}
 use Rattle.lentzone.specs.Decode.{part, entry_in, rows, zone_in, OnePlace}
-
--- ---- octets copied whole
-
-put_whole : (b s : List ℕ) → length b ≡ length s → put b 0 s ≡ s
-unfolding put
-put_whole b s e =
-    let h : length b ≤ length s = omega arith in
-    rw (zero-add, drop_of_length-le b h) (append-nil s)
-
-pub copied : {b s l : List ℕ} {n : ℕ} → length b ≡ length s → Laid b 0 s l n → l ≡ s
-copied {b} {s} {l} {n} e w =
-    let p : Wrote b 0 s l n = (written w).fit (omega arith) in
-    p.list ∙ put_whole b s e
 
 put_first : (s r : List ℕ) (w : ℕ) → length r ≡ w → put s 0 r ≡ r ++ drop w s
 unfolding put
@@ -136,6 +124,31 @@ unfolding zone_in
 zone_put s r i l h e =
     ap (λ (es : List Entry). record { entries = es })
     (ap (map entry_in) (rows_put 374 64 s r i h (omega arith) e) ∙ map_set entry_in (rows 374 64 s) i r)
+
+-- the library's chunks are the rows
+pub chunks_rows : (w n : ℕ) (s : List ℕ) → first_chunks w n s ≡ rows w n s
+unfolding rows
+chunks_rows w zero s = refl
+chunks_rows w (suc n) s = ap (λ (l : List (List ℕ)). take w s ∷ l) (chunks_rows w n (drop w s))
+
+pub any_map : {A B : Type 0} (f : A → B) (p : B → Bool) (l : List A) → list_any (λ x. p (f x)) l ≡ list_any p (map f l)
+any_map f p [] = refl
+any_map f p (x ∷ l) = ap (λ (b : Bool). p (f x) || b) (any_map f p l)
+
+-- one of several places
+module _ (rs : List (List ℕ)) (i : ℕ) (h : i < length rs) (d : List ℕ) where
+  pub row_entry : get_or (map entry_in rs) i blank ≡ entry_in (get_or rs i d)
+  row_entry =
+      get_d_any (map entry_in rs) i blank (entry_in d) (rw (length-map rs entry_in) h)
+      ∙ get_or-map entry_in rs i d
+
+  pub row_free : get_or (get_or rs i d) 0 0 ≡ 0 → used (get_or (map entry_in rs) i blank) ≡ false
+  unfolding used
+  row_free e = ap not (eq-eqb _ _ (ap (λ (x : Entry). x.kind) row_entry ∙ e))
+
+  pub row_used : (get_or (get_or rs i d) 0 0 ≡ 0 → ⊥) → used (get_or (map entry_in rs) i blank) ≡ true
+  unfolding used
+  row_used n = ap not (ne_eqb _ _ (λ e. n (sym (ap (λ (x : Entry). x.kind) row_entry) ∙ e)))
 
 -- ---- nothing changes but one place
 

@@ -1,17 +1,16 @@
 -- The laws of a name at a place, and of the place of a name, looked for from the last place on. Assumes nothing.
-use mathlib.Core.Path.{◌≡◌, refl, sym, ◌∙◌, ap}
+use mathlib.Core.Path.{◌≡◌, sym, ◌∙◌, ap}
 use mathlib.Core.Bool.{Bool, true, false, cond}
 use mathlib.Core.List.{List, [], ◌∷◌}
 use Prim.Native.Nat.{ℕ, zero, suc, ◌+◌, ◌-◌, ◌≤◌, ◌<◌}
 use native.Mathlib.Nat.{zero-add, add-zero}
 use native.Mathlib.Omega.{arith}
-use lib.ListN.{length, get_or, take, replicate}
+use lib.ListN.{length, get_or, take}
 use lib.Seq.{take_all}
 use borrow.Author.Tests.{eq-eqb}
-use Rattle.zone.specs.Meaning.{used}
 use Rattle.zone.specs.Survey.{named, place_from}
 use Rattle.zone.proofs.SurveyLaws.{blank}
-use Rattle.lentzone.specs.Decode.{entry_in, zone_in}
+use Rattle.lentzone.specs.Decode.{zone_in}
 use Rattle.lentzone.specs.Inner.{place_in}
 use Rattle.lentzone.proofs.DecodeLaws.{zone_length}
 
@@ -56,15 +55,3 @@ module _ (z n : List ℕ) where
   pub left_end : (i : ℕ) → i ≤ 0 → Left i → 64 ≡ place_in z n
   unfolding place_from
   left_end i h l = let e : i ≡ 0 = omega arith in sym (l.rest ∙ ap (λ (m : ℕ). place_from (named n) 0 64 (take m (zone_in z).entries)) e)
-
--- no name stands in a place of zeros
-named_free : (n e : List ℕ) → get_or e 0 0 ≡ 0 → named n (entry_in e) ≡ false
-unfolding named used
-named_free n e h = rw (eq-eqb (get_or e 0 0) 0 h)
-
-zeros : (k : ℕ) → get_or {A = ℕ} (replicate k 0) 0 0 ≡ 0
-zeros zero = refl
-zeros (suc k) = refl
-
-pub named_zeros : (n e : List ℕ) → replicate {A = ℕ} 374 0 ≡ e → false ≡ named n (entry_in e)
-named_zeros n e z = sym (named_free n e (ap (λ (x : List ℕ). get_or x 0 0) (sym z) ∙ zeros 374))

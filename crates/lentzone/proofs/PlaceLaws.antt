@@ -14,10 +14,10 @@ use Rattle.zone.specs.declared.entry.Entry.{Entry}
 use Rattle.zone.specs.declared.entry.Records.{Records}
 use Rattle.zone.specs.Survey.{place_of}
 use Rattle.zone.proofs.SurveyLaws.{blank, get_d_any}
-use Rattle.lentzone.specs.Decode.{entry_in, zone_in, OnePlace}
+use Rattle.lentzone.specs.Decode.{entry_in, rows, zone_in, OnePlace}
 use Rattle.lentzone.specs.Encode.{entry_octets, SizedEntry}
 use Rattle.lentzone.specs.Inner.{records_octets, row_at, name_at, PutRecords, PutEntry, Written}
-use Rattle.lentzone.proofs.DecodeLaws.{zone_length, zone_at, zone_put, one_place_same, one_place_put}
+use Rattle.lentzone.proofs.DecodeLaws.{rows_length, rows_at, zone_length, zone_at, zone_put, one_place_same, one_place_put}
 use Rattle.lentzone.proofs.EncodeLaws.{length_part, entry_again, entry_length, records_length, records_put}
 
 module _ (z : List ℕ) (place : ℕ) where
@@ -34,6 +34,12 @@ module _ (z : List ℕ) (place : ℕ) where
   pub row_no_place : 64 ≤ place → replicate 374 0 ≡ row_at z place
   unfolding row_at
   row_no_place h = sym (rw (le-ltb place 64 h, and-false (eqb (length z) 23936)))
+
+  -- the same, read among all rows
+  pub row_read : (rs : List (List ℕ)) (d : List ℕ) → length z ≡ 23936 → rs ≡ rows 374 64 z → place < 64 → get_or rs place d ≡ row_at z place
+  row_read rs d l e h =
+      let n : length rs ≡ 64 = ap length e ∙ rows_length 374 64 z in
+      get_d_any rs place d [] (omega arith) ∙ ap (λ (s : List (List ℕ)). get_or s place []) e ∙ rows_at 374 64 z place h ∙ row_there l h
 
   -- what stands there, and its name, are those of the zone that the octets hold
   pub place_at : length z ≡ 23936 → place < 64 → (d : Entry) → entry_in (row_at z place) ≡ get_or (zone_in z).entries place d

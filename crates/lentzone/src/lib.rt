@@ -10,4 +10,5 @@ mod look;
 pub mod named;
 mod names;
 pub mod place;
+mod rows;
 pub mod survey;

@@ -1,72 +1,38 @@
 // One place of a zone in lent octets: read, and written. There are 64 places of 374 octets each;
 // where there are not 23,936 octets, or no such place, nothing is written.
-ghost use Rattle.std.specs.Prelude.{◌≡◌, replicate};
-ghost use Rattle.zone.specs.Survey.{place_of, records_of};
+ghost use Rattle.std.specs.Prelude.{◌≡◌};
+ghost use Rattle.zone.specs.Survey.{place_of};
 ghost use Rattle.lentzone.specs.Decode.{entry_in};
 ghost use Rattle.lentzone.specs.Inner.{row_at, records_at, name_at, Written};
 
 use crate::layout::{DHCID, PLACE_SIZE, ZONE_SIZE};
-use crate::{decode, encode};
+use crate::{decode, encode, rows};
 use dname::name::Name;
 use octets::write;
 use zone::entry::{Entry, Records};
-
-// What stands in a place of zeros.
-fn nothing() -> Records
-    ensures { result ≡ records_of (entry_in (replicate 374 0)) }
-{
-    let blank = [0u8; PLACE_SIZE];
-    decode::records_in(&blank)
-}
-
-// A place of zeros.
-fn free_entry() -> Entry
-    ensures { result ≡ entry_in (replicate 374 0) }
-{
-    let blank = [0u8; PLACE_SIZE];
-    decode::entry_in(&blank)
-}
 
 // What stands at a place; as in a place of zeros where there is no such place.
 pub fn records_at(z: &[u8], place: usize) -> Records
     ensures { result ≡ records_at z.now place }
 {
-    if z.len() != ZONE_SIZE {
-        return nothing();
-    }
-    if 64 <= place {
-        return nothing();
-    }
-    let at = place * PLACE_SIZE;
-    let end = at + PLACE_SIZE;
-    decode::records_in(&z[at..end])
+    decode::records_in(rows::row_at(z, place))
 }
 
 // A place whole, octet for octet; zeros where there is no such place.
 pub fn entry_at(z: &[u8], place: usize) -> Entry
     ensures { result ≡ entry_in (row_at z.now place) }
 {
-    if z.len() != ZONE_SIZE {
-        return free_entry();
-    }
-    if 64 <= place {
-        return free_entry();
-    }
-    let at = place * PLACE_SIZE;
-    let end = at + PLACE_SIZE;
-    decode::entry_in(&z[at..end])
+    decode::entry_in(rows::row_at(z, place))
 }
 
 // What stands at a place written; its name stays.
 pub fn write_records(z: &mut [u8], place: usize, r: Records)
     ensures { Written z.old place (place_of (name_at z.old place) r) z.new }
 {
-    if place < 64 {
-        if z.len() == ZONE_SIZE {
-            let at = place * PLACE_SIZE;
-            write::put_octet(z, at, r.kind);
-            encode::put_records(r, z, at + DHCID);
-        }
+    if place < 64 && z.len() == ZONE_SIZE {
+        let at = place * PLACE_SIZE;
+        write::put_octet(z, at, r.kind);
+        encode::put_records(r, z, at + DHCID);
     }
 }
 
@@ -74,9 +40,7 @@ pub fn write_records(z: &mut [u8], place: usize, r: Records)
 pub fn write_entry(z: &mut [u8], place: usize, n: Name, r: Records)
     ensures { Written z.old place (place_of n r) z.new }
 {
-    if place < 64 {
-        if z.len() == ZONE_SIZE {
-            encode::put_entry(n, r, z, place * PLACE_SIZE);
-        }
+    if place < 64 && z.len() == ZONE_SIZE {
+        encode::put_entry(n, r, z, place * PLACE_SIZE);
     }
 }

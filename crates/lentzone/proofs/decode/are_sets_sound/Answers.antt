@@ -2,10 +2,10 @@ use Rattle.std.proofs.Common.{sym, ◌∙◌}
 use Rattle.lentzone.specs.Decode.{part}
 use Rattle.lentzone.proofs.decode.are_sets_sound.Goals as goal
 
-pub returns-then-not-is_sound4_in : goal.returns-then-not-is_sound4_in
+pub returns-then-is_sound4_in : goal.returns-then-is_sound4_in
 unfolding part
-returns-then-not-is_sound4_in c = simp (sym c.is_sound4_in.ensures ∙ c.if-not-is_sound4_in.true)
+returns-then-is_sound4_in c = simp (sym c.is_sound4_in.ensures ∙ c.if-is_sound4_in.true) c.is_sound6_in.ensures
 
-pub returns : goal.returns
+pub returns-else-is_sound4_in : goal.returns-else-is_sound4_in
 unfolding part
-returns c = simp (sym c.is_sound4_in.ensures ∙ c.if-not-is_sound4_in.false) c.is_sound6_in.ensures
+returns-else-is_sound4_in c = c.if-is_sound4_in.false ∙ simp (sym c.is_sound4_in.ensures ∙ c.if-is_sound4_in.false)

@@ -1,7 +1,8 @@
+use Rattle.std.proofs.Common.{◌∙◌, lt-ltb}
 use Rattle.addresses.specs.Addresses.{octets4, counted4}
 use Rattle.lentzone.specs.Decode.{set4_in}
 use Rattle.lentzone.proofs.DecodeLaws.{few_sound}
 use Rattle.lentzone.proofs.decode.is_sound4_in.Goals as goal
 
 pub returns-then-s-lt2 : goal.returns-then-s-lt2
-returns-then-s-lt2 c = few_sound octets4 (counted4 (set4_in c.args.s.now)) c.if-s-lt2.true
+returns-then-s-lt2 c = lt-ltb _ _ c.if-s-lt2.true ∙ few_sound octets4 (counted4 (set4_in c.args.s.now)) c.if-s-lt2.true

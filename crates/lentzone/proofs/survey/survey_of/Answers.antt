@@ -1,48 +1,51 @@
-use Rattle.std.proofs.Common.{◌<◌, ◌≤◌, get_or, refl, sym, ap, ◌∙◌, arith}
-use Rattle.std.proofs.lemmas.Bool.{not-true}
+use Rattle.std.proofs.Common.{◌<◌, ◌≤◌, not, map, length, get_or, refl, sym, ap, ◌∙◌, arith}
+use lib.ListN.{length-map}
 use Rattle.zone.specs.declared.entry.Entry.{Entry}
 use Rattle.zone.specs.Meaning.{key_of, in_order}
 use Rattle.zone.specs.Survey.{fingerprint_words, named}
 use Rattle.zone.proofs.FingerprintLaws.{fingerprint_key}
 use Rattle.zone.proofs.SurveyLaws.{blank}
 use Rattle.zone.proofs.WalkLaws.{walk_start, walk_free, walk_used, walk_clear, walk_end}
-use Rattle.lentzone.specs.Decode.{zone_in}
-use Rattle.lentzone.proofs.DecodeLaws.{zone_length, zone_part, zone_used, zone_free, order_seen}
+use Rattle.lentzone.specs.Decode.{entry_in}
+use Rattle.lentzone.proofs.DecodeLaws.{row_entry, row_used, row_free, order_seen}
 use Rattle.lentzone.proofs.survey.survey_of.Goals as goal
 
 pub loop-i-init : goal.loop-i-init
-loop-i-init c = (c.fingerprint-fingerprint.ensures, walk_start (zone_in c.args.z.now).entries c.args.n.now _ (zone_length c.args.z.now) refl)
+loop-i-init c = walk_start (map entry_in c.args.places.now) c.args.n.now _ (length-map c.args.places.now entry_in ∙ c.requires) refl
 
-pub loop-i-preserved-then-z-at-eq0 : goal.loop-i-preserved-then-z-at-eq0
-loop-i-preserved-then-z-at-eq0 c =
-    let z = c.args.z.now in
+pub loop-i-preserved-then-e-eq0 : goal.loop-i-preserved-then-e-eq0
+loop-i-preserved-then-e-eq0 c =
+    let rs = c.args.places.now in
     let l = c.loop-i in
+    let h : l.i < length rs = omega arith in
     let k : l.i < 64 = omega arith in
-    (l.invariant.0, walk_free (zone_in z).entries c.args.n.now l.fingerprints l.used l.inorder l.found l.free l.i l.invariant.1 k (zone_free z l.i k c.if-z-at-eq0.true))
+    walk_free (map entry_in rs) c.args.n.now l.fingerprints l.used l.inorder l.found l.free l.i l.invariant k (row_free rs l.i h _ c.if-e-eq0.true)
 
 pub loop-i-preserved : goal.loop-i-preserved
 loop-i-preserved c =
-    let z = c.args.z.now in
+    let rs = c.args.places.now in
     let n = c.args.n.now in
     let l = c.loop-i in
-    let es = (zone_in z).entries in
+    let h : l.i < length rs = omega arith in
     let k : l.i < 64 = omega arith in
-    let q = zone_part z l.i k in
     let r = c.look_at-l.ensures in
-    let u = zone_used z l.i k c.if-z-at-eq0.false in
-    let fine = order_seen (get_or es l.i blank) _ u (r.order_is ∙ ap in_order (sym q)) in
-    let hit = r.named_is ∙ ap (named n) (sym q) in
-    let fingerprint = r.fingerprint_is ∙ fingerprint_key _ ∙ ap (λ (e : Entry). fingerprint_words (key_of e)) (sym q) in
-    (l.invariant.0, walk_used es n l.fingerprints l.used l.inorder l.found l.free l.i l.invariant.1 k _ _ _ _ _ u fingerprint fine hit c.both-inorder.ensures c.choose-found.ensures)
+    let u = row_used rs l.i h _ c.if-e-eq0.false in
+    let fine = order_seen (get_or (map entry_in rs) l.i blank) _ u (r.order_is ∙ ap in_order (sym (row_entry rs l.i h _))) in
+    let hit = r.named_is ∙ ap (named n) (sym (row_entry rs l.i h _)) in
+    let fingerprint = r.fingerprint_is ∙ fingerprint_key _ ∙ ap (λ (e : Entry). fingerprint_words (key_of e)) (sym (row_entry rs l.i h _)) in
+    walk_used (map entry_in rs) n l.fingerprints l.used l.inorder l.found l.free l.i l.invariant k _ _ _ _ _ u fingerprint fine hit c.both-inorder.ensures c.choose-found.ensures
 
-pub names_differ-distinct-requires : goal.names_differ-distinct-requires
-names_differ-distinct-requires c =
+pub returns-then-not-repeats : goal.returns-then-not-repeats
+returns-then-not-repeats c =
+    let es = map entry_in c.args.places.now in
     let l = c.loop-i in
     let h : 64 ≤ l.i = omega arith in
-    (c.requires, λ t. walk_clear (zone_in c.args.z.now).entries c.args.n.now l.fingerprints l.used l.inorder l.found l.free l.i l.invariant.1 h (sym c.repeats-repeats.ensures ∙ not-true _ t))
+    let clear = walk_clear es c.args.n.now l.fingerprints l.used l.inorder l.found l.free l.i l.invariant h in
+    let t = c.if-not-repeats.true in
+    walk_end es c.args.n.now l.fingerprints l.used l.inorder l.found l.free l.i l.invariant h _ (ap not t ∙ sym (clear (sym c.repeats-repeats.ensures ∙ t)))
 
-pub returns : goal.returns
-returns c =
+pub returns-else-not-repeats : goal.returns-else-not-repeats
+returns-else-not-repeats c =
     let l = c.loop-i in
     let h : 64 ≤ l.i = omega arith in
-    walk_end (zone_in c.args.z.now).entries c.args.n.now l.fingerprints l.used l.inorder l.found l.free l.i l.invariant.1 h _ c.names_differ-distinct.ensures
+    walk_end (map entry_in c.args.places.now) c.args.n.now l.fingerprints l.used l.inorder l.found l.free l.i l.invariant h _ c.are_distinct-distinct.ensures

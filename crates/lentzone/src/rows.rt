@@ -1,0 +1,34 @@
+// The places of a zone in lent octets, each as an array.
+ghost use Rattle.std.specs.Prelude.{◌≡◌, length, MatchOption};
+ghost use Rattle.lentzone.specs.Decode.{rows};
+ghost use Rattle.lentzone.specs.Inner.{row_at};
+
+use crate::layout::{PLACE_SIZE, ZONE_SIZE};
+
+// The octets of one place.
+pub(crate) type Row = [u8; PLACE_SIZE];
+
+static FREE: Row = [0; PLACE_SIZE];
+
+// The 64 places, where the octets are as many as a zone has.
+pub(crate) fn rows(z: &[u8]) -> Option<&[Row]>
+    ensures { MatchOption result (length z.now ≡ 23936 → ⊥) (λ r. (length z.now ≡ 23936) × (length r.now ≡ 64) × (r.now ≡ rows 374 64 z.now)) }
+{
+    if z.len() != ZONE_SIZE {
+        return None;
+    }
+    Some(z.as_chunks().0)
+}
+
+// One place; zeros where there is no such place.
+pub(crate) fn row_at(z: &[u8], place: usize) -> &Row
+    ensures { result.now ≡ row_at z.now place }
+{
+    let Some(rows) = rows(z) else {
+        return &FREE;
+    };
+    if place >= 64 {
+        return &FREE;
+    }
+    &rows[place]
+}
