@@ -1,19 +1,15 @@
 -- The laws of what the functions below the exported call hand on. Assumes nothing.
-use Prim.Native.Nat.{ℕ, ◌-◌, ◌≤◌, ◌<◌, min}
-use mathlib.Core.Path.{◌≡◌, refl, sym, ap, ◌∙◌}
-use mathlib.Core.List.{List, [], ◌∷◌}
+use Prim.Native.Nat.{ℕ, ◌≤◌, ◌<◌}
+use mathlib.Core.Path.{◌≡◌, ap, ◌∙◌}
+use mathlib.Core.List.{List}
 use mathlib.Core.Bool.{Bool, true, false}
-use native.Mathlib.Omega.{arith}
-use lib.ListN.{length, drop, replicate, length-take, length-drop, length-replicate}
+use lib.ListN.{length, replicate}
 use borrow.Author.Tests.{lt-ltb, le-ltb, eq-eqb, ne_eqb}
 use Rattle.std.specs.Prelude.{Result}
 use Rattle.clock.specs.declared.Moment.{Moment}
 use Rattle.clock.specs.Clock.{is_moment}
-use Rattle.octets.specs.Write.{laid, Laid}
-use Rattle.octets.proofs.WriteLaws.{written, put_front, laid_nothing}
+use Rattle.octets.specs.Write.{laid}
 use Rattle.lease.specs.Lease.{active_at}
-use Rattle.lease.proofs.ListLaws.{take_min}
-use Rattle.leasepacket.specs.Packet.{part}
 use Rattle.leasepacket.specs.declared.query.Query.{Query}
 use Rattle.leasepacket.specs.declared.query.Refusal.{Refusal}
 use Rattle.leasepacket.specs.Query.{first_of}
@@ -23,14 +19,7 @@ use Rattle.leasetable.specs.declared.look.Found.{Found}
 use Rattle.leasequery.specs.Answer.{refusal}
 use Rattle.leasequery.specs.Stages.{padded, asked_at, other_of, active_of, concluded}
 
--- ---- octets of the packet
-pub part_length : (p : List ℕ) (at n : ℕ) → length (part p at n) ≡ min n (length p - at)
-part_length p at n = length-take n (drop at p) ∙ ap (min n) (length-drop at p)
-
--- no more is taken than there is
-pub part_available : (p : List ℕ) (at n m : ℕ) → m ≡ min n (length p - at) → part p at n ≡ part p at m
-part_available p at n m q = take_min (drop at p) n m (q ∙ ap (min n) (sym (length-drop at p)))
-
+-- ---- octets with zeros behind them
 pub padded_over : (o : List ℕ) → 64 < length o → replicate 64 0 ≡ padded o
 unfolding padded
 padded_over o h = rw (lt-ltb 64 (length o) h)
@@ -38,20 +27,6 @@ padded_over o h = rw (lt-ltb 64 (length o) h)
 pub padded_laid : (o : List ℕ) → length o ≤ 64 → padded o ≡ laid o (replicate 64 0)
 unfolding padded
 padded_laid o h = rw (le-ltb 64 (length o) h)
-
-empty : (o : List ℕ) → length o ≡ 0 → o ≡ []
-empty [] e = refl
-empty (x ∷ xs) e = absurd (omega arith)
-
-pub padded_none : (o : List ℕ) → length o ≡ 0 → replicate 64 0 ≡ padded o
-padded_none o e =
-    sym (padded_laid o (omega arith) ∙ ap (λ (w : List ℕ). laid w (replicate 64 0)) (empty o e) ∙ laid_nothing (replicate 64 0))
-
-pub padded_written : {ys l : List ℕ} {n : ℕ} (o : List ℕ) → ys ≡ o → length o ≤ 64 → Laid (replicate 64 0) 0 ys l n → l ≡ padded o
-padded_written {ys} {l} {n} o e h w =
-    let r : length {A = ℕ} (replicate 64 0) ≡ 64 = length-replicate {A = ℕ} 64 0 in
-    let q : length ys ≡ length o = ap length e in
-    ((written w).fit (omega arith)).list ∙ put_front (replicate 64 0) ys ∙ ap (λ (v : List ℕ). laid v (replicate 64 0)) e ∙ sym (padded_laid o h)
 
 -- ---- what is asked where only the packet can be refused, by what was read of it
 pub asked_read : (clock : Moment) (ok : Bool) (query : List ℕ) (room : ℕ) {r : Result Query Refusal} → r ≡ reading query → is_moment clock ≡ true → ok ≡ true → 648 ≤ room → asked query r ≡ asked_at clock ok query room

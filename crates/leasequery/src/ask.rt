@@ -1,5 +1,5 @@
 // What a query has looked for in the table, or the refusal because of which nothing is looked for.
-ghost use Rattle.std.specs.Prelude.{◌≡◌, ◌-◌, min};
+ghost use Rattle.std.specs.Prelude.{◌≡◌};
 ghost use Rattle.leasepacket.specs.Packet.{part};
 ghost use Rattle.leasepacket.specs.Reading.{asked_by};
 ghost use Rattle.leasequery.specs.declared.ask.Refusal.TheVariants.{Packet};
@@ -13,7 +13,6 @@ use leasereply::reply;
 use leasetable::candidates::Candidates;
 use leasetable::client::Key;
 use leasetable::form::Form;
-use octets::write;
 
 // Why nothing is looked for, in the order of the refusals.
 #[derive(Clone, Copy, PartialEq, Eq, Debug)]
@@ -45,47 +44,36 @@ impl From<Refusal> for u32 {
     }
 }
 
-// How many of n octets from a place on there are.
-fn available(len: usize, at: usize, n: usize) -> usize
-    ensures { result ≡ min n (len - at) }
+// The octets of a packet from a place on, n of them or as many as there are.
+fn part(p: &[u8], at: usize, n: usize) -> &[u8]
+    ensures { result.now ≡ part p.now at n }
 {
-    if len <= at {
-        return 0;
-    }
-    if len - at < n { len - at } else { n }
+    let rest = &p[at.min(p.len())..];
+    &rest[..n.min(rest.len())]
 }
 
-// The octets of a packet from a place on, at most n and 64 of them, and zeros behind them. Of more
-// than 64 none are given.
-fn octets_from(p: &[u8], at: usize, n: usize) -> [u8; 64]
-    ensures { result ≡ padded (part p.now at n) }
+// Octets with zeros behind them. Of more than 64 none are given.
+fn padded(octets: &[u8]) -> [u8; 64]
+    ensures { result ≡ padded octets.now }
 {
     let mut out = [0; 64];
-    let m = available(p.len(), at, n);
-    if 64 < m {
-        return out;
+    if octets.len() <= 64 {
+        out[..octets.len()].copy_from_slice(octets);
     }
-    if m == 0 {
-        return out;
-    }
-    let end = at + m;
-    let _end = write::put_octets(&mut out, 0, &p[at..end]);
     out
 }
 
-// The key of a client id that stands at a place of the packet.
-fn id_key(p: &[u8], at: usize, n: usize) -> Key
-    ensures { result ≡ id_key (part p.now at n) }
+// The key of a client id.
+#[tactic(auto, unfolding(crate::specs::Stages::id_key))]
+fn id_key(octets: &[u8]) -> Key
+    ensures { result ≡ id_key octets.now }
 {
-    let octets = octets_from(p, at, n);
-    let m = available(p.len(), at, n);
-    let len = if m < 65 { m as u8 } else { 65 };
     Key {
         kind: 3,
         htype: 0,
-        len,
+        len: octets.len().min(65) as u8,
         address: 0,
-        octets,
+        octets: padded(octets),
     }
 }
 
@@ -119,9 +107,9 @@ fn key_for(p: &[u8], query: Query) -> Key
             htype,
             len: hlen,
             address: 0,
-            octets: octets_from(p, layout::CHADDR, 16),
+            octets: padded(part(p, layout::CHADDR, 16)),
         },
-        Query::ByClientId(id) => id_key(p, id.at, id.len),
+        Query::ByClientId(id) => id_key(part(p, id.at, id.len)),
     }
 }
 
@@ -134,13 +122,12 @@ fn start(clock: Moment, refusal: u32, key: Key) -> Candidates
         last: Moment(0),
         address: 0,
     };
-    let ranks = [blank; 4];
     Candidates {
         refusal,
         clock,
         key,
         kept: 0,
-        ranks,
+        ranks: [blank; 4],
     }
 }
 
