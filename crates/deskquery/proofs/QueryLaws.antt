@@ -15,7 +15,9 @@ use Rattle.octets.proofs.WriteLaws.{put_front}
 use Rattle.leasepacket.specs.Layout.{fixed_fields, option}
 use Rattle.leasepacket.specs.Query.{Asked, refused, by_address, by_client_id, first_of}
 use Rattle.deskquery.specs.Query.{hardware_key, packet, query_by, is_key, write_refusals, asked_by, first_refusal, fields}
-use Rattle.deskquery.specs.Promise.{refusal_of, given, QueryPromise, Wrote}
+use Rattle.deskquery.specs.Promise.{refusal_of, given, QueryPromise, Wrote, number_of}
+use Rattle.deskquery.specs.declared.refuse.Refusal.{Refusal}
+use Rattle.deskquery.specs.declared.refuse.Refusal.TheVariants.{NotTaken, NoRoom}
 
 -- ---- the first refusal, by each way out of it
 module _ (giaddr : ℕ) (taken : Bool) (room : ℕ) where
@@ -130,9 +132,13 @@ module _ (giaddr : ℕ) (key : Asked) (room : ℕ) where
       go false false e = refl
 
 module _ (xid giaddr : ℕ) (key : Asked) (before : List ℕ) where
-  pub promised_refusal : (n : ℕ) → n ≡ first_refusal giaddr (is_key key) (length before) → (n ≡ 0 → ⊥) → QueryPromise xid giaddr key before (record { refusal = n; length = 0 }) before
+  pub promised_refusal : (r : Refusal) → number_of r ≡ first_refusal giaddr (is_key key) (length before) → QueryPromise xid giaddr key before (record { refusal = number_of r; length = 0 }) before
   unfolding given query_by laid
-  promised_refusal n e h = rw (asked_refused giaddr key (length before) n e h)
+  promised_refusal r e = rw (asked_refused giaddr key (length before) (number_of r) e (not_zero r))
+    where
+      not_zero : (s : Refusal) → number_of s ≡ 0 → ⊥
+      not_zero NotTaken z = omega (arith, z)
+      not_zero NoRoom z = omega (arith, z)
 
   pub promised_query : (after : List ℕ) (n : ℕ) → refusal_of key ≡ 0 → first_refusal giaddr (is_key key) (length before) ≡ 0 → Wrote (query_by xid giaddr key) before n after → QueryPromise xid giaddr key before (record { refusal = 0; length = n }) after
   unfolding given

@@ -1,8 +1,10 @@
 -- What the calls that write a query promise. Document 02, d).
-use Rattle.std.specs.Prelude.{ℕ, ◌≤◌, ◌≡◌, List, length}
+use Rattle.std.specs.Prelude.{ℕ, ◌≤◌, ◌≡◌, List, length, Result, Ok, Err}
 use Rattle.octets.specs.Write.{laid}
 use Rattle.leasepacket.specs.Query.{Asked, refused, by_address, by_hardware, by_client_id}
 use Rattle.deskquery.specs.declared.QueryAnswer.{QueryAnswer}
+use Rattle.deskquery.specs.declared.refuse.Refusal.{Refusal}
+use Rattle.deskquery.specs.declared.refuse.Refusal.TheVariants.{NotTaken, NoRoom}
 use Rattle.deskquery.specs.Query.{query_by, asked_by}
 
 -- The number of a refusal; 0 says that there is none.
@@ -29,3 +31,12 @@ pub record Wrote (octets before : List ℕ) (n : ℕ) (after : List ℕ) : Type 
   pub answers : n ≡ length octets
   pub holds : after ≡ laid octets before
   pub few : n ≤ 501
+
+-- The number of a refusal, and of the first that applies; 0 says that there is none.
+abbrev pub number_of : Refusal → ℕ
+number_of NotTaken = 19
+number_of NoRoom = 32
+
+abbrev pub number_in : Result (Unit {0}) Refusal → ℕ
+number_in (Ok _) = 0
+number_in (Err r) = number_of r

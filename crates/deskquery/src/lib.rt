@@ -3,9 +3,12 @@
 
 #![tactic(auto)]
 
+ghost use Rattle.std.specs.Prelude.{◌≡◌, ◌≤◌};
 ghost use Rattle.leasepacket.specs.Query.{by_address, by_client_id};
 ghost use Rattle.deskquery.specs.Query.{hardware_key};
-ghost use Rattle.deskquery.specs.Promise.{QueryPromise};
+ghost use Rattle.deskquery.specs.Promise.{QueryPromise, number_of};
+
+use refuse::Refusal;
 
 pub mod fixed;
 pub mod refuse;
@@ -19,6 +22,27 @@ pub struct QueryAnswer {
     pub length: u32,
 }
 
+// The answer to a query that is not written.
+fn refused(refusal: Refusal) -> QueryAnswer
+    ensures { result ≡ record { refusal = number_of refusal; length = 0 } }
+{
+    QueryAnswer {
+        refusal: u32::from(refusal),
+        length: 0,
+    }
+}
+
+// The answer to a query that was written, of a length.
+fn written(n: usize) -> QueryAnswer
+    requires { n ≤ 501 }
+    ensures { result ≡ record { refusal = 0; length = n } }
+{
+    QueryAnswer {
+        refusal: 0,
+        length: n as u32,
+    }
+}
+
 // Writes a query by address.
 pub fn jespurla_query_by_address(
     xid: u32,
@@ -28,14 +52,9 @@ pub fn jespurla_query_by_address(
 ) -> QueryAnswer
     ensures { QueryPromise xid giaddr (by_address address) query.old result query.new }
 {
-    let refusal = refuse::first_refusal(giaddr, address != 0, query.len());
-    if refusal != 0 {
-        return QueryAnswer { refusal, length: 0 };
-    }
-    let n = write::by_address(query, xid, giaddr, address);
-    QueryAnswer {
-        refusal: 0,
-        length: n as u32,
+    match refuse::first_refusal(giaddr, address != 0, query.len()) {
+        Ok(()) => written(write::by_address(query, xid, giaddr, address)),
+        Err(refusal) => refused(refusal),
     }
 }
 
@@ -50,14 +69,9 @@ pub fn jespurla_query_by_hardware(
     ensures { QueryPromise xid giaddr (hardware_key htype chaddr.now) query.old result query.new }
 {
     let taken = refuse::is_within(chaddr.len(), 1, 16);
-    let refusal = refuse::first_refusal(giaddr, taken, query.len());
-    if refusal != 0 {
-        return QueryAnswer { refusal, length: 0 };
-    }
-    let n = write::by_hardware(query, xid, giaddr, htype, chaddr);
-    QueryAnswer {
-        refusal: 0,
-        length: n as u32,
+    match refuse::first_refusal(giaddr, taken, query.len()) {
+        Ok(()) => written(write::by_hardware(query, xid, giaddr, htype, chaddr)),
+        Err(refusal) => refused(refusal),
     }
 }
 
@@ -71,13 +85,8 @@ pub fn jespurla_query_by_client_id(
     ensures { QueryPromise xid giaddr (by_client_id id.now) query.old result query.new }
 {
     let taken = refuse::is_within(id.len(), 2, 255);
-    let refusal = refuse::first_refusal(giaddr, taken, query.len());
-    if refusal != 0 {
-        return QueryAnswer { refusal, length: 0 };
-    }
-    let n = write::by_client_id(query, xid, giaddr, id);
-    QueryAnswer {
-        refusal: 0,
-        length: n as u32,
+    match refuse::first_refusal(giaddr, taken, query.len()) {
+        Ok(()) => written(write::by_client_id(query, xid, giaddr, id)),
+        Err(refusal) => refused(refusal),
     }
 }

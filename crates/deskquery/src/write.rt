@@ -14,9 +14,8 @@ use octets::write;
 fn put_type(buf: &mut [u8], at: usize) -> usize
     ensures { WroteIf buf.old at (option 53 (10 ∷ [])) buf.new result }
 {
-    let a = write::put_octet(buf, at, layout::MESSAGE_TYPE);
-    let b = write::put_octet(buf, a, 1);
-    write::put_octet(buf, b, layout::DHCPLEASEQUERY)
+    let kind = [layout::MESSAGE_TYPE, 1, layout::DHCPLEASEQUERY];
+    write::put_octets(buf, at, &kind)
 }
 
 // The fixed fields and the message type, which every query begins with.
@@ -43,8 +42,7 @@ pub(crate) fn by_address(buf: &mut [u8], xid: u32, giaddr: u32, address: u32) ->
     requires { 501 ≤ length buf.old }
     ensures { Wrote (query_by xid giaddr (by_address address)) buf.old result buf.new }
 {
-    let none: [u8; 0] = [];
-    let a = put_head(buf, xid, giaddr, address, 0, &none);
+    let a = put_head(buf, xid, giaddr, address, 0, &[]);
     write::put_octet(buf, a, layout::END)
 }
 
@@ -62,8 +60,7 @@ pub(crate) fn by_client_id(buf: &mut [u8], xid: u32, giaddr: u32, id: &[u8]) -> 
     requires { (501 ≤ length buf.old) × (length id.now ≤ 255) }
     ensures { Wrote (query_by xid giaddr (by_client_id id.now)) buf.old result buf.new }
 {
-    let none: [u8; 0] = [];
-    let a = put_head(buf, xid, giaddr, 0, 0, &none);
+    let a = put_head(buf, xid, giaddr, 0, 0, &[]);
     let b = put_id(buf, a, id);
     write::put_octet(buf, b, layout::END)
 }

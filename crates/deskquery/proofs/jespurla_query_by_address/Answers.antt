@@ -1,22 +1,23 @@
-use Rattle.std.proofs.Common.{◌≡◌, refl, sym, ◌∙◌, length}
+use Rattle.std.proofs.Common.{refl, sym}
 use Rattle.leasepacket.specs.Query.{by_address}
-use Rattle.deskquery.specs.Query.{is_key, first_refusal}
+use Rattle.deskquery.specs.Query.{is_key}
 use Rattle.deskquery.proofs.QueryLaws.{accepts_room, promised_refusal, promised_query}
 use Rattle.deskquery.proofs.jespurla_query_by_address.Goals as goal
 
-pub by_address-n-requires : goal.by_address-n-requires
-by_address-n-requires c = accepts_room _ _ _ (sym c.first_refusal-refusal.ensures ∙ c.if-refusal-ne0.false)
+pub by_address-requires : goal.by_address-requires
+by_address-requires c = accepts_room _ _ _ (sym c.in-Ok.ensures)
 
-pub returns-then-refusal-ne0 : goal.returns-then-refusal-ne0
-unfolding is_key
-returns-then-refusal-ne0 c =
-    let s = c.args in
-    let e : c.first_refusal-refusal.result ≡ first_refusal s.giaddr (is_key (by_address s.address)) (length s.query.now) = c.first_refusal-refusal.ensures in
-    promised_refusal s.xid s.giaddr (by_address s.address) s.query.now c.first_refusal-refusal.result e c.if-refusal-ne0.true
+pub written-requires : goal.written-requires
+written-requires c = c.by_address.ensures.few
 
-pub returns : goal.returns
+pub returns-in-Ok : goal.returns-in-Ok
 unfolding is_key
-returns c =
+returns-in-Ok c =
     let s = c.args in
-    let e : c.first_refusal-refusal.result ≡ first_refusal s.giaddr (is_key (by_address s.address)) (length s.query.now) = c.first_refusal-refusal.ensures in
-    promised_query s.xid s.giaddr (by_address s.address) s.query.now c.by_address-n.new.buf c.by_address-n.result refl (sym e ∙ c.if-refusal-ne0.false) c.by_address-n.ensures
+    rw c.written.ensures (promised_query s.xid s.giaddr (by_address s.address) s.query.now c.by_address.new.buf c.by_address.result refl (sym c.in-Ok.ensures) c.by_address.ensures)
+
+pub returns-in-Err : goal.returns-in-Err
+unfolding is_key
+returns-in-Err c =
+    let s = c.args in
+    rw c.refused.ensures (promised_refusal s.xid s.giaddr (by_address s.address) s.query.now c.in-Err.refusal c.in-Err.ensures)

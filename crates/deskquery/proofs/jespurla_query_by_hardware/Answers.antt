@@ -3,24 +3,26 @@ use Rattle.deskquery.specs.Query.{hardware_key, is_key}
 use Rattle.deskquery.proofs.QueryLaws.{accepts_room, accepts_key, within_most, promised_refusal, promised_query}
 use Rattle.deskquery.proofs.jespurla_query_by_hardware.Goals as goal
 
-pub by_hardware-n-requires : goal.by_hardware-n-requires
-by_hardware-n-requires c =
-    let z = sym c.first_refusal-refusal.ensures ∙ c.if-refusal-ne0.false in
-    let h = within_most (length c.args.chaddr.now) 1 _ (sym c.is_within-taken.ensures ∙ accepts_key _ _ _ z) in
-    (accepts_room _ _ _ z, omega (arith, h))
+pub by_hardware-requires : goal.by_hardware-requires
+by_hardware-requires c =
+    let h = within_most (length c.args.chaddr.now) 1 _ (sym c.is_within-taken.ensures ∙ accepts_key _ _ _ (sym c.in-Ok.ensures)) in
+    (accepts_room _ _ _ (sym c.in-Ok.ensures), omega (arith, h))
 
-pub returns-then-refusal-ne0 : goal.returns-then-refusal-ne0
+pub written-requires : goal.written-requires
+written-requires c = c.by_hardware.ensures.few
+
+pub returns-in-Ok : goal.returns-in-Ok
 unfolding is_key hardware_key
-returns-then-refusal-ne0 c =
+returns-in-Ok c =
     let s = c.args in
     let k : c.is_within-taken.result ≡ is_key (hardware_key s.htype s.chaddr.now) = c.is_within-taken.ensures in
-    let e = rw k at c.first_refusal-refusal.ensures in
-    promised_refusal s.xid s.giaddr (hardware_key s.htype s.chaddr.now) s.query.now c.first_refusal-refusal.result e c.if-refusal-ne0.true
+    let e = rw k at c.in-Ok.ensures in
+    rw c.written.ensures (promised_query s.xid s.giaddr (hardware_key s.htype s.chaddr.now) s.query.now c.by_hardware.new.buf c.by_hardware.result refl (sym e) c.by_hardware.ensures)
 
-pub returns : goal.returns
+pub returns-in-Err : goal.returns-in-Err
 unfolding is_key hardware_key
-returns c =
+returns-in-Err c =
     let s = c.args in
     let k : c.is_within-taken.result ≡ is_key (hardware_key s.htype s.chaddr.now) = c.is_within-taken.ensures in
-    let e = rw k at c.first_refusal-refusal.ensures in
-    promised_query s.xid s.giaddr (hardware_key s.htype s.chaddr.now) s.query.now c.by_hardware-n.new.buf c.by_hardware-n.result refl (sym e ∙ c.if-refusal-ne0.false) c.by_hardware-n.ensures
+    let e = rw k at c.in-Err.ensures in
+    rw c.refused.ensures (promised_refusal s.xid s.giaddr (hardware_key s.htype s.chaddr.now) s.query.now c.in-Err.refusal e)

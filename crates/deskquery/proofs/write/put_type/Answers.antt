@@ -1,5 +1,5 @@
-use Rattle.octets.proofs.WriteLaws.{written, more}
+use Rattle.octets.proofs.WriteLaws.{written}
 use Rattle.deskquery.proofs.write.put_type.Goals as goal
 
 pub returns : goal.returns
-returns c = more (more (written c.put_octet-a.ensures) c.put_octet-b.ensures) c.put_octet.ensures
+returns c = written c.put_octets.ensures
