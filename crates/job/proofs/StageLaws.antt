@@ -1,16 +1,18 @@
 -- The numbers of stages and counts: what the tests in src/stage.rt come to. Assumes nothing.
 use mathlib.Core.Path.{◌≡◌, refl, sym, ◌∙◌, ap, subst}
-use mathlib.Core.Bool.{Bool, true, false, cond, ◌&&◌, ◌||◌, or-false, and-false, true≢false}
+use mathlib.Core.Bool.{Bool, true, false, cond, ◌&&◌, ◌||◌, and-false, true≢false}
 use mathlib.Core.Option.{Option, none, some}
 use mathlib.Core.List.{List, [], ◌∷◌}
-use Prim.Native.Nat.{ℕ, zero, suc, ◌≤◌, ◌<◌}
-use native.Mathlib.Omega.{arith}
-use lib.Dec.{eqb, leb}
-use borrow.Author.Tests.{lt-leb, le-leb, ne_eqb, eqb-true}
+use Prim.Native.Nat.{ℕ}
+use lib.Dec.{eqb}
+use borrow.Author.Tests.{eqb-true}
 use Rattle.update.specs.Meaning.{listed}
 use Rattle.job.specs.declared.job.Job.{Job}
+use Rattle.job.specs.declared.stage.Stage as code
+use Rattle.job.specs.declared.stage.Stage.TheVariants.{BeforeA, BeforeB, Done, Conflict, NoRoom, GaveUp, BeforeFirst, BeforeSecond, NotOurs, Gone, Kept}
 use Rattle.job.specs.Jobs.{Stage, among, possible}
-use Rattle.job.specs.Meaning.{stage_number, stages, numbered, stage_at, is_end, allowed, can_have, is_add, numbers_listed, has_ended}
+use Rattle.job.specs.Inner.{staged, is_over, Stands}
+use Rattle.job.specs.Meaning.{stage_number, stages, numbered, stage_at, allowed, can_have, is_add, numbers_listed, has_ended}
 use Rattle.update.proofs.ZoneLaws.{some≢none}
 
 -- a fact of the numbers of a list holds of each number among them
@@ -66,163 +68,66 @@ can_stage number count h = go (stage_at number count) refl h
     go none e q = absurd (true≢false (sym q))
     go (some s) e q = record { stage = s; found = e; can = q; number_is = numbered_number number (stages count) s (unfold stage_at in e) }
 
--- a number above all of the list has none
-not_listed : (n count : ℕ) → 15 < n → stage_at n count ≡ none
+-- ---- the stages of the code
+
+-- the number of a stage is listed, and whatever the count stands for it
+pub at_staged : (s : code.Stage) (count : ℕ) → stage_at (stage_number (staged s 0)) count ≡ some (staged s count)
 unfolding stage_at numbered stage_number
-not_listed n count h =
-    rw (below 1 (omega arith), below 2 (omega arith), below 3 (omega arith), below 4 (omega arith), below 5 (omega arith), below 6 (omega arith), below 11 (omega arith), below 12 (omega arith), below 13 (omega arith), below 14 (omega arith), below 15 (omega arith)) refl
-  where
-    below : (k : ℕ) → k ≤ 15 → eqb k n ≡ false
-    below k l = ne_eqb k n (λ e. omega arith)
+at_staged BeforeA count = refl
+at_staged BeforeB count = refl
+at_staged Done count = refl
+at_staged Conflict count = refl
+at_staged NoRoom count = refl
+at_staged GaveUp count = refl
+at_staged BeforeFirst count = refl
+at_staged BeforeSecond count = refl
+at_staged NotOurs count = refl
+at_staged Gone count = refl
+at_staged Kept count = refl
 
--- ---- an add's stages
+module _ (j : Job) (s : code.Stage) (n : stage_number (staged s 0) ≡ j.stage) where
+  pub found : stage_at j.stage j.count ≡ some (staged s j.count)
+  found = ap (λ (k : ℕ). stage_at k j.count) (sym n) ∙ at_staged s j.count
 
-module _ (n : ℕ) where
-  pub can_a : can_have 1 n ≡ among n (0 ∷ 2 ∷ 4 ∷ [])
-  unfolding can_have stage_at numbered stage_number possible among
-  can_a = refl
-
-  pub can_b : can_have 2 n ≡ among n (1 ∷ 3 ∷ 5 ∷ [])
-  unfolding can_have stage_at numbered stage_number possible among
-  can_b = refl
-
-  pub can_conflict : can_have 4 n ≡ among n (2 ∷ 4 ∷ 6 ∷ [])
-  unfolding can_have stage_at numbered stage_number possible among
-  can_conflict = refl
-
-  pub can_gave_up : can_have 6 n ≡ eqb n 6
-  unfolding can_have stage_at numbered stage_number possible among
-  can_gave_up = or-false (eqb n 6)
-
-  pub can_nothing : can_have 0 n ≡ false
-  unfolding can_have stage_at numbered stage_number
-  can_nothing = refl
-
-pub six : (n : ℕ) → (n ≡ 0 → ⊥) → leb n 6 ≡ among n (1 ∷ 2 ∷ 3 ∷ 4 ∷ 5 ∷ 6 ∷ [])
-unfolding among
-six zero h = absurd (h refl)
-six (suc zero) h = refl
-six (suc (suc zero)) h = refl
-six (suc (suc (suc zero))) h = refl
-six (suc (suc (suc (suc zero)))) h = refl
-six (suc (suc (suc (suc (suc zero))))) h = refl
-six (suc (suc (suc (suc (suc (suc zero)))))) h = refl
-six (suc (suc (suc (suc (suc (suc (suc n))))))) h =
-    lt-leb (suc (suc (suc (suc (suc (suc (suc n))))))) 6 (omega arith)
-    ∙ sym (rw (above 1 (omega arith), above 2 (omega arith), above 3 (omega arith), above 4 (omega arith), above 5 (omega arith), above 6 (omega arith)) refl)
-  where
-    above : (k : ℕ) → k ≤ 6 → eqb (suc (suc (suc (suc (suc (suc (suc n))))))) k ≡ false
-    above k l = ne_eqb _ k (λ e. omega arith)
-
--- done and no room, the only ones left
-pub can_rest : (s n : ℕ) → s ≤ 6 → (s ≡ 0 → ⊥) → (s ≡ 1 → ⊥) → (s ≡ 2 → ⊥) → (s ≡ 4 → ⊥) → (s ≡ 6 → ⊥) → can_have s n ≡ among n (1 ∷ 2 ∷ 3 ∷ 4 ∷ 5 ∷ 6 ∷ [])
-unfolding can_have stage_at numbered stage_number possible among
-can_rest zero n l a b c d e = absurd (a refl)
-can_rest (suc zero) n l a b c d e = absurd (b refl)
-can_rest (suc (suc zero)) n l a b c d e = absurd (c refl)
-can_rest (suc (suc (suc zero))) n l a b c d e = refl
-can_rest (suc (suc (suc (suc zero)))) n l a b c d e = absurd (d refl)
-can_rest (suc (suc (suc (suc (suc zero))))) n l a b c d e = refl
-can_rest (suc (suc (suc (suc (suc (suc zero)))))) n l a b c d e = absurd (e refl)
-can_rest (suc (suc (suc (suc (suc (suc (suc s))))))) n l a b c d e = absurd (omega arith)
-
--- ---- a remove's stages
-
-pub can_low : (s n : ℕ) → 6 < s → s < 11 → can_have s n ≡ false
-unfolding can_have stage_at numbered stage_number
-can_low zero n h l = absurd (omega arith)
-can_low (suc zero) n h l = absurd (omega arith)
-can_low (suc (suc zero)) n h l = absurd (omega arith)
-can_low (suc (suc (suc zero))) n h l = absurd (omega arith)
-can_low (suc (suc (suc (suc zero)))) n h l = absurd (omega arith)
-can_low (suc (suc (suc (suc (suc zero))))) n h l = absurd (omega arith)
-can_low (suc (suc (suc (suc (suc (suc zero)))))) n h l = absurd (omega arith)
-can_low (suc (suc (suc (suc (suc (suc (suc zero))))))) n h l = refl
-can_low (suc (suc (suc (suc (suc (suc (suc (suc zero)))))))) n h l = refl
-can_low (suc (suc (suc (suc (suc (suc (suc (suc (suc zero))))))))) n h l = refl
-can_low (suc (suc (suc (suc (suc (suc (suc (suc (suc (suc zero)))))))))) n h l = refl
-can_low (suc (suc (suc (suc (suc (suc (suc (suc (suc (suc (suc s))))))))))) n h l = absurd (omega arith)
-
-pub can_remove : (s n : ℕ) → 11 ≤ s → leb s 15 ≡ can_have s n
-unfolding can_have stage_at numbered stage_number possible among
-can_remove zero n h = absurd (omega arith)
-can_remove (suc zero) n h = absurd (omega arith)
-can_remove (suc (suc zero)) n h = absurd (omega arith)
-can_remove (suc (suc (suc zero))) n h = absurd (omega arith)
-can_remove (suc (suc (suc (suc zero)))) n h = absurd (omega arith)
-can_remove (suc (suc (suc (suc (suc zero))))) n h = absurd (omega arith)
-can_remove (suc (suc (suc (suc (suc (suc zero)))))) n h = absurd (omega arith)
-can_remove (suc (suc (suc (suc (suc (suc (suc zero))))))) n h = absurd (omega arith)
-can_remove (suc (suc (suc (suc (suc (suc (suc (suc zero)))))))) n h = absurd (omega arith)
-can_remove (suc (suc (suc (suc (suc (suc (suc (suc (suc zero))))))))) n h = absurd (omega arith)
-can_remove (suc (suc (suc (suc (suc (suc (suc (suc (suc (suc zero)))))))))) n h = absurd (omega arith)
-can_remove (suc (suc (suc (suc (suc (suc (suc (suc (suc (suc (suc zero))))))))))) n h = refl
-can_remove (suc (suc (suc (suc (suc (suc (suc (suc (suc (suc (suc (suc zero)))))))))))) n h = refl
-can_remove (suc (suc (suc (suc (suc (suc (suc (suc (suc (suc (suc (suc (suc zero))))))))))))) n h = refl
-can_remove (suc (suc (suc (suc (suc (suc (suc (suc (suc (suc (suc (suc (suc (suc zero)))))))))))))) n h = refl
-can_remove (suc (suc (suc (suc (suc (suc (suc (suc (suc (suc (suc (suc (suc (suc (suc zero))))))))))))))) n h = refl
-can_remove (suc (suc (suc (suc (suc (suc (suc (suc (suc (suc (suc (suc (suc (suc (suc (suc s)))))))))))))))) n h =
-    lt-leb (suc (suc (suc (suc (suc (suc (suc (suc (suc (suc (suc (suc (suc (suc (suc (suc s)))))))))))))))) 15 (omega arith) ∙ sym (ap allowed (not_listed (suc (suc (suc (suc (suc (suc (suc (suc (suc (suc (suc (suc (suc (suc (suc (suc s)))))))))))))))) n (omega arith)))
-
--- ---- the ends
-
-abbrev end_number : ℕ → Bool
-end_number s = (leb 3 s && leb s 6) || (leb 13 s && leb s 15)
-
-end_above : (s n : ℕ) → 15 < s → is_end (stage_at s n) ≡ end_number s
-end_above s n h = ap is_end (not_listed s n h) ∙ sym (rw (lt-leb s 6 (omega arith), lt-leb s 15 h, and-false (leb 3 s), and-false (leb 13 s)) refl)
-
--- 3 to 6 and 13 to 15
-pub end_number_lem : (s n : ℕ) → is_end (stage_at s n) ≡ end_number s
-unfolding stage_at numbered stage_number
-end_number_lem zero n = refl
-end_number_lem (suc zero) n = refl
-end_number_lem (suc (suc zero)) n = refl
-end_number_lem (suc (suc (suc zero))) n = refl
-end_number_lem (suc (suc (suc (suc zero)))) n = refl
-end_number_lem (suc (suc (suc (suc (suc zero))))) n = refl
-end_number_lem (suc (suc (suc (suc (suc (suc zero)))))) n = refl
-end_number_lem (suc (suc (suc (suc (suc (suc (suc zero))))))) n = refl
-end_number_lem (suc (suc (suc (suc (suc (suc (suc (suc zero)))))))) n = refl
-end_number_lem (suc (suc (suc (suc (suc (suc (suc (suc (suc zero))))))))) n = refl
-end_number_lem (suc (suc (suc (suc (suc (suc (suc (suc (suc (suc zero)))))))))) n = refl
-end_number_lem (suc (suc (suc (suc (suc (suc (suc (suc (suc (suc (suc zero))))))))))) n = refl
-end_number_lem (suc (suc (suc (suc (suc (suc (suc (suc (suc (suc (suc (suc zero)))))))))))) n = refl
-end_number_lem (suc (suc (suc (suc (suc (suc (suc (suc (suc (suc (suc (suc (suc zero))))))))))))) n = refl
-end_number_lem (suc (suc (suc (suc (suc (suc (suc (suc (suc (suc (suc (suc (suc (suc zero)))))))))))))) n = refl
-end_number_lem (suc (suc (suc (suc (suc (suc (suc (suc (suc (suc (suc (suc (suc (suc (suc zero))))))))))))))) n = refl
-end_number_lem (suc (suc (suc (suc (suc (suc (suc (suc (suc (suc (suc (suc (suc (suc (suc (suc s)))))))))))))))) n = end_above (suc (suc (suc (suc (suc (suc (suc (suc (suc (suc (suc (suc (suc (suc (suc (suc s)))))))))))))))) n (omega arith)
-
-module _ (j : Job) where
-  pub ended_add : (leb 3 j.stage && leb j.stage 6) ≡ true → has_ended j ≡ 1
+  -- whether it is an end does not depend on the count
+  pub ended_staged : has_ended j ≡ cond (is_over (staged s 0)) 1 0
   unfolding has_ended
-  ended_add a = rw (end_number_lem j.stage j.count, a)
+  ended_staged = rw (found, same s)
+    where
+      same : (s : code.Stage) → is_over (staged s j.count) ≡ is_over (staged s 0)
+      same BeforeA = refl
+      same BeforeB = refl
+      same Done = refl
+      same Conflict = refl
+      same NoRoom = refl
+      same GaveUp = refl
+      same BeforeFirst = refl
+      same BeforeSecond = refl
+      same NotOurs = refl
+      same Gone = refl
+      same Kept = refl
 
-  module _ (a : (leb 3 j.stage && leb j.stage 6) ≡ false) where
-    pub ended_remove : (leb 13 j.stage && leb j.stage 15) ≡ true → has_ended j ≡ 1
-    unfolding has_ended
-    ended_remove b = rw (end_number_lem j.stage j.count, a, b)
+  -- the numbers of a job, of which the policy that is read is p
+  module _ (p : ℕ) (q : p ≡ cond (is_add (stage_number (staged s 0))) j.policy 0) where
+    numbers : numbers_listed j ≡ (listed j.family p && possible (staged s j.count))
+    unfolding numbers_listed can_have
+    numbers =
+        let r : cond (is_add j.stage) j.policy 0 ≡ p = ap (λ (k : ℕ). cond (is_add k) j.policy 0) (sym n) ∙ sym q in
+        rw (r, found)
 
-    pub not_ended : (leb 13 j.stage && leb j.stage 15) ≡ false → has_ended j ≡ 0
-    unfolding has_ended
-    not_ended b = rw (end_number_lem j.stage j.count, a, b)
+    pub stands : listed j.family p ≡ true → possible (staged s j.count) ≡ true → Stands j s
+    stands l c = record { listed_is = numbers ∙ rw (l, c); at_is = found }
 
--- ---- a job's numbers
+    pub unlisted_policy : listed j.family p ≡ false → numbers_listed j ≡ false
+    unlisted_policy l = numbers ∙ rw l
 
-module _ (j : Job) (h : j.stage ≤ 6) where
-  pub add_unlisted : listed j.family j.policy ≡ false → numbers_listed j ≡ false
-  unfolding numbers_listed is_add
-  add_unlisted l = rw (le-leb j.stage 6 h, l) refl
+    pub unlisted_count : possible (staged s j.count) ≡ false → numbers_listed j ≡ false
+    unlisted_count c = numbers ∙ rw (c, and-false)
 
-  pub add_numbers : listed j.family j.policy ≡ true → numbers_listed j ≡ can_have j.stage j.count
-  unfolding numbers_listed is_add
-  add_numbers l = rw (le-leb j.stage 6 h, l) refl
+pub unlisted_stage : (j : Job) → stage_at j.stage j.count ≡ none → numbers_listed j ≡ false
+unfolding numbers_listed can_have
+unlisted_stage j h = rw (h, and-false)
 
-module _ (j : Job) (h : 6 < j.stage) where
-  pub remove_unlisted : listed j.family 0 ≡ false → numbers_listed j ≡ false
-  unfolding numbers_listed is_add
-  remove_unlisted l = rw (lt-leb j.stage 6 h, l) refl
-
-  pub remove_numbers : listed j.family 0 ≡ true → numbers_listed j ≡ can_have j.stage j.count
-  unfolding numbers_listed is_add
-  remove_numbers l = rw (lt-leb j.stage 6 h, l) refl
+pub unlisted_goes_on : (j : Job) → stage_at j.stage j.count ≡ none → has_ended j ≡ 0
+unfolding has_ended
+unlisted_goes_on j h = rw h

@@ -1,45 +1,47 @@
 // Where an answer leads a job.
 ghost use Rattle.std.specs.Prelude.{◌≡◌};
 ghost use Rattle.job.specs.Jobs.{after, after_first, after_second};
-ghost use Rattle.job.specs.Inner.{placed, led};
+ghost use Rattle.job.specs.Meaning.{at_stage};
+ghost use Rattle.job.specs.Inner.{staged, answer_of, led};
 
 use crate::job::Job;
-use crate::stage;
+use crate::stage::{MOST_REQUESTS, Stage};
 use request::answer;
 
-// The same job at another stage.
-fn moved(job: Job, stage: u8, count: u8) -> Job
-    ensures { result ≡ placed job stage count }
+// The same job at another stage, an add with the count.
+#[tactic(auto, unfolding(crate::specs::Meaning::at_stage, crate::specs::Meaning::is_add, crate::specs::Meaning::stage_number, crate::specs::Meaning::stage_count))]
+fn moved(job: Job, stage: Stage, count: u8) -> Job
+    ensures { result ≡ at_stage job (staged stage count) }
 {
-    let mut j = job;
-    j.stage = stage;
-    j.count = count;
-    j
+    let count = if stage.is_add() { count } else { job.count };
+    Job {
+        stage: stage.number(),
+        count,
+        ..job
+    }
+}
+
+// The stage of an add whose request got the answer. sent: its requests, the one just answered among
+// them.
+#[tactic(auto, unfolding(crate::specs::Jobs::after, crate::specs::Inner::answer_of))]
+fn add_after(sent: u8, answer: u32) -> Stage
+    ensures { staged result sent ≡ after sent (answer_of answer) }
+{
+    match answer {
+        answer::SUCCESS => Stage::Done,
+        answer::YXDOMAIN => Stage::BeforeB,
+        answer::YXRRSET | answer::NXRRSET => Stage::Conflict,
+        answer::NO_ROOM => Stage::NoRoom,
+        _ if sent == MOST_REQUESTS => Stage::GaveUp,
+        _ => Stage::BeforeA,
+    }
 }
 
 // An add, after request A or B. sent: its requests, the one just answered among them.
 pub fn after_add(job: Job, sent: u8, answer: u32) -> Job
     ensures { result ≡ led job (after sent) answer }
 {
-    if answer == answer::SUCCESS {
-        return moved(job, stage::DONE, sent);
-    }
-    if answer == answer::YXDOMAIN {
-        return moved(job, stage::BEFORE_B, sent);
-    }
-    if answer == answer::YXRRSET {
-        return moved(job, stage::CONFLICT, sent);
-    }
-    if answer == answer::NXRRSET {
-        return moved(job, stage::CONFLICT, sent);
-    }
-    if answer == answer::NO_ROOM {
-        return moved(job, stage::NO_ROOM, sent);
-    }
-    if sent == stage::MOST_REQUESTS {
-        return moved(job, stage::GAVE_UP, sent);
-    }
-    moved(job, stage::BEFORE_A, sent)
+    moved(job, add_after(sent, answer), sent)
 }
 
 // A remove, after its first request.
@@ -47,9 +49,10 @@ pub fn after_first(job: Job, answer: u32) -> Job
     ensures { result ≡ led job after_first answer }
 {
     if answer == answer::SUCCESS {
-        return moved(job, stage::BEFORE_SECOND, job.count);
+        moved(job, Stage::BeforeSecond, 0)
+    } else {
+        moved(job, Stage::NotOurs, 0)
     }
-    moved(job, stage::NOT_OURS, job.count)
 }
 
 // A remove, after its second request.
@@ -57,7 +60,8 @@ pub fn after_second(job: Job, answer: u32) -> Job
     ensures { result ≡ led job after_second answer }
 {
     if answer == answer::SUCCESS {
-        return moved(job, stage::GONE, job.count);
+        moved(job, Stage::Gone, 0)
+    } else {
+        moved(job, Stage::Kept, 0)
     }
-    moved(job, stage::KEPT, job.count)
 }

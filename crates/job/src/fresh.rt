@@ -2,10 +2,11 @@
 ghost use Rattle.std.specs.Prelude.{◌≡◌};
 ghost use Rattle.dname.specs.Name.{name_of};
 ghost use Rattle.job.specs.Meaning.{blank};
+ghost use Rattle.job.specs.Inner.{refusal_number};
 ghost use Rattle.job.specs.Promise.{new_refusal, new_job, AddPromise, RemovePromise};
 
 use crate::job::Job;
-use crate::stage;
+use crate::stage::Stage;
 use dname::name;
 use dname::name::Name;
 use update::numbers;
@@ -19,52 +20,54 @@ pub struct NewJob {
     pub job: Job,
 }
 
-fn refusal(n: Name, family: u8, policy: u8) -> u32
-    ensures { result ≡ new_refusal (name_of n) family policy }
+// Why a new job is refused, with the number of document 01's table.
+#[derive(Clone, Copy, Debug, PartialEq, Eq)]
+enum Refusal {
+    NameNotFull = 11,
+    UnlistedNumber = 18,
+}
+
+#[tactic(auto, unfolding(crate::specs::Promise::new_refusal))]
+fn check(name: Name, family: u8, policy: u8) -> Result<(), Refusal>
+    ensures { refusal_number result ≡ new_refusal (name_of name) family policy }
 {
     if !numbers::is_listed(family, policy) {
-        return 18;
+        return Err(Refusal::UnlistedNumber);
     }
-    if !name::is_full(n) {
-        return 11;
+    if !name::is_full(name) {
+        return Err(Refusal::NameNotFull);
     }
-    0
+    Ok(())
 }
 
 fn blank_job() -> Job
     ensures { result ≡ blank }
 {
-    let name = [0u8; 255];
-    let dhcid = [0u8; 35];
-    let address = [0u8; 16];
     Job {
         stage: 0,
         count: 0,
         family: 0,
         policy: 0,
         name: Name {
-            octets: name,
+            octets: [0; 255],
             len: 0,
         },
-        dhcid: Dhcid { octets: dhcid },
-        address: Address { octets: address },
+        dhcid: Dhcid { octets: [0; 35] },
+        address: Address { octets: [0; 16] },
     }
 }
 
 // The job, unless there is a refusal.
-fn new_job(refusal: u32, job: Job) -> NewJob
-    ensures { result ≡ new_job refusal job }
+#[tactic(auto, unfolding(crate::specs::Promise::new_job))]
+fn new_job(checked: Result<(), Refusal>, job: Job) -> NewJob
+    ensures { result ≡ new_job (refusal_number checked) job }
 {
-    if refusal == 0 {
-        return NewJob {
-            refusal: 0,
-            job: job,
-        };
-    }
-    let none = blank_job();
-    NewJob {
-        refusal: refusal,
-        job: none,
+    match checked {
+        Ok(_) => NewJob { refusal: 0, job },
+        Err(refusal) => NewJob {
+            refusal: refusal as u32,
+            job: blank_job(),
+        },
     }
 }
 
@@ -78,32 +81,30 @@ pub fn jespurla_new_add(
 ) -> NewJob
     ensures { AddPromise name dhcid family address policy result }
 {
-    let refused = refusal(name, family, policy);
     let job = Job {
-        stage: stage::BEFORE_A,
+        stage: Stage::BeforeA.number(),
         count: 0,
-        family: family,
-        policy: policy,
-        name: name,
-        dhcid: dhcid,
-        address: address,
+        family,
+        policy,
+        name,
+        dhcid,
+        address,
     };
-    new_job(refused, job)
+    new_job(check(name, family, policy), job)
 }
 
 // A remove job, that has sent nothing yet.
 pub fn jespurla_new_remove(name: Name, dhcid: Dhcid, family: u8, address: Address) -> NewJob
     ensures { RemovePromise name dhcid family address result }
 {
-    let refused = refusal(name, family, 0);
     let job = Job {
-        stage: stage::BEFORE_FIRST,
+        stage: Stage::BeforeFirst.number(),
         count: 0,
-        family: family,
+        family,
         policy: 0,
-        name: name,
-        dhcid: dhcid,
-        address: address,
+        name,
+        dhcid,
+        address,
     };
-    new_job(refused, job)
+    new_job(check(name, family, 0), job)
 }

@@ -1,108 +1,126 @@
-// The numbers of stages, and whether a job has numbers that a job may have.
-ghost use Rattle.std.specs.Prelude.{◌≡◌, [], ◌∷◌, ◌≤◌, ◌<◌};
-ghost use Rattle.job.specs.Jobs.{among};
-ghost use Rattle.job.specs.Meaning.{can_have, numbers_listed};
+// The stages of a job with their numbers, and whether a job has numbers that a job may have.
+ghost use Rattle.std.specs.Prelude.{◌≡◌, false, cond, MatchResult};
+ghost use Rattle.job.specs.Jobs.{possible};
+ghost use Rattle.job.specs.Meaning.{stage_number, is_add, numbers_listed};
+ghost use Rattle.job.specs.Inner.{staged, is_over, Decodes, Stands};
 
 use crate::job::Job;
 use update::numbers;
 
-// The stages of an add.
-pub const BEFORE_A: u8 = 1;
+// Where a job stands: an add at the first six, a remove at the others.
+#[derive(Clone, Copy, Debug, PartialEq, Eq)]
+pub enum Stage {
+    BeforeA = 1,
+    BeforeB = 2,
+    Done = 3,
+    Conflict = 4,
+    NoRoom = 5,
+    GaveUp = 6,
+    BeforeFirst = 11,
+    BeforeSecond = 12,
+    NotOurs = 13,
+    Gone = 14,
+    Kept = 15,
+}
 
-pub const BEFORE_B: u8 = 2;
+// A number that is not listed.
+#[derive(Clone, Copy, Debug, PartialEq, Eq)]
+pub struct Unlisted;
 
-pub const DONE: u8 = 3;
+impl TryFrom<u8> for Stage {
+    type Error = Unlisted;
 
-pub const CONFLICT: u8 = 4;
+    ghost try_from_gives = { Decodes };
 
-pub const NO_ROOM: u8 = 5;
-
-pub const GAVE_UP: u8 = 6;
-
-// The stages of a remove.
-pub const BEFORE_FIRST: u8 = 11;
-
-pub const BEFORE_SECOND: u8 = 12;
-
-pub const NOT_OURS: u8 = 13;
-
-pub const GONE: u8 = 14;
-
-pub const KEPT: u8 = 15;
+    #[tactic(auto, unfolding(crate::specs::Meaning::stage_at, crate::specs::Meaning::numbered, crate::specs::Meaning::stage_number))]
+    fn try_from(number: u8) -> Result<Self, Unlisted> {
+        match number {
+            1 => Ok(Stage::BeforeA),
+            2 => Ok(Stage::BeforeB),
+            3 => Ok(Stage::Done),
+            4 => Ok(Stage::Conflict),
+            5 => Ok(Stage::NoRoom),
+            6 => Ok(Stage::GaveUp),
+            11 => Ok(Stage::BeforeFirst),
+            12 => Ok(Stage::BeforeSecond),
+            13 => Ok(Stage::NotOurs),
+            14 => Ok(Stage::Gone),
+            15 => Ok(Stage::Kept),
+            _ => Err(Unlisted),
+        }
+    }
+}
 
 // The most requests that an add sends.
 pub const MOST_REQUESTS: u8 = 6;
 
-// Whether a number is one of three.
-fn is_one_of(n: u8, a: u8, b: u8, c: u8) -> bool
-    ensures { result ≡ among n (a ∷ b ∷ c ∷ []) }
-{
-    if n == a {
-        return true;
+impl Stage {
+    // The number that stands in a job.
+    #[tactic(auto, unfolding(crate::specs::Meaning::stage_number))]
+    pub fn number(self) -> u8
+        ensures { result ≡ stage_number (staged self 0) }
+    {
+        self as u8
     }
-    if n == b {
-        return true;
-    }
-    n == c
-}
 
-// Whether a number is one to six.
-fn is_sent_count(n: u8) -> bool
-    ensures { result ≡ among n (1 ∷ 2 ∷ 3 ∷ 4 ∷ 5 ∷ 6 ∷ []) }
-{
-    if n == 0 {
-        return false;
+    // Whether it is an add's.
+    #[tactic(auto, unfolding(crate::specs::Meaning::is_add, crate::specs::Meaning::stage_number))]
+    pub fn is_add(self) -> bool
+        ensures { result ≡ is_add (stage_number (staged self 0)) }
+    {
+        matches!(
+            self,
+            Stage::BeforeA
+                | Stage::BeforeB
+                | Stage::Done
+                | Stage::Conflict
+                | Stage::NoRoom
+                | Stage::GaveUp
+        )
     }
-    n <= MOST_REQUESTS
-}
 
-// Whether an add's stage is listed and can have the count.
-fn can_add_have(stage: u8, count: u8) -> bool
-    requires { stage ≤ 6 }
-    ensures { result ≡ can_have stage count }
-{
-    if stage == BEFORE_A {
-        return is_one_of(count, 0, 2, 4);
+    // Whether it is an end.
+    pub fn is_end(self) -> bool
+        ensures { result ≡ is_over (staged self 0) }
+    {
+        !matches!(
+            self,
+            Stage::BeforeA | Stage::BeforeB | Stage::BeforeFirst | Stage::BeforeSecond
+        )
     }
-    if stage == BEFORE_B {
-        return is_one_of(count, 1, 3, 5);
-    }
-    if stage == CONFLICT {
-        return is_one_of(count, 2, 4, 6);
-    }
-    if stage == GAVE_UP {
-        return count == MOST_REQUESTS;
-    }
-    if stage == 0 {
-        return false;
-    }
-    is_sent_count(count)
-}
 
-// Whether a remove's stage is listed: it has no count, and whatever stands there will do.
-fn can_remove_have(stage: u8, count: u8) -> bool
-    requires { 6 < stage }
-    ensures { result ≡ can_have stage count }
-{
-    if stage < BEFORE_FIRST {
-        return false;
-    }
-    stage <= KEPT
-}
-
-// Whether a job's numbers are listed, and its stage can have its count.
-pub fn are_numbers_listed(job: Job) -> bool
-    ensures { result ≡ numbers_listed job }
-{
-    let stage = job.stage;
-    if stage <= GAVE_UP {
-        if !numbers::is_listed(job.family, job.policy) {
-            return false;
+    // Whether it can have the count. A remove has none, and whatever stands there will do.
+    #[tactic(auto, unfolding(crate::specs::Jobs::possible, crate::specs::Jobs::among))]
+    pub fn can_have(self, count: u8) -> bool
+        ensures { result ≡ possible (staged self count) }
+    {
+        match self {
+            Stage::BeforeA => matches!(count, 0 | 2 | 4),
+            Stage::BeforeB => matches!(count, 1 | 3 | 5),
+            Stage::Done | Stage::NoRoom => matches!(count, 1..=MOST_REQUESTS),
+            Stage::Conflict => matches!(count, 2 | 4 | 6),
+            Stage::GaveUp => count == MOST_REQUESTS,
+            _ => true,
         }
-        return can_add_have(stage, job.count);
     }
-    if !numbers::is_listed(job.family, 0) {
-        return false;
+}
+
+// The policy that is read: a remove has none.
+fn policy_at(job: &Job, stage: Stage) -> u8
+    ensures { result ≡ cond (is_add (stage_number (staged stage 0))) job.now.policy 0 }
+{
+    if stage.is_add() { job.policy } else { 0 }
+}
+
+// The stage of a job whose numbers are listed, and whose stage can have its count.
+pub fn listed_stage(job: &Job) -> Result<Stage, Unlisted>
+    ensures { MatchResult result (Stands job.now) (λ e. numbers_listed job.now ≡ false) }
+{
+    let stage = Stage::try_from(job.stage)?;
+    let policy = policy_at(job, stage);
+    if numbers::is_listed(job.family, policy) && stage.can_have(job.count) {
+        Ok(stage)
+    } else {
+        Err(Unlisted)
     }
-    can_remove_have(stage, job.count)
 }

@@ -2,109 +2,228 @@
 use mathlib.Core.Path.{◌≡◌, refl, sym, ◌∙◌, ap, subst}
 use mathlib.Core.Bool.{Bool, true, false, cond}
 use mathlib.Core.List.{[], ◌∷◌}
-use mathlib.Core.Option.{some}
-use Prim.Native.Nat.{ℕ, ◌+◌, ◌<◌}
-use native.Mathlib.Numerals.{add-one}
+use mathlib.Core.Logic.{◌⊎◌, inl, inr}
+use Prim.Native.Nat.{ℕ, ◌<◌}
 use native.Mathlib.Omega.{arith}
-use lib.Dec.{leb}
+use lib.Dec.{eqb}
 use borrow.Author.Tests.{eq-eqb, ne_eqb}
-use Rattle.octets.proofs.BoolLaws.{and_left, and_right}
+use Rattle.octets.specs.Count.{Octets}
+use Rattle.octets.proofs.BoolLaws.{and_left}
 use Rattle.zone.specs.declared.Zone.{Zone}
 use Rattle.request.specs.declared.Answered.{Answered}
-use Rattle.update.specs.Rules.{Answer, Outcome, request_a, request_b, remove_address, remove_name}
+use Rattle.update.specs.Rules.{Answer, success, Outcome}
 use Rattle.dname.specs.Name.{name_of}
 use Rattle.zone.specs.Meaning.{formed}
-use Rattle.update.specs.Meaning.{listed, policy_of, update_of, zone_of}
+use Rattle.update.specs.Meaning.{listed, zone_of}
 use Rattle.update.specs.Spelling.{spelling_of, respelled}
 use Rattle.request.specs.Promise.{refusal_of, number_of, Promised}
 use Rattle.update.proofs.NumberLaws.{listed_zero}
+use Rattle.request.proofs.AnswerLaws.{number_success}
 use Rattle.request.proofs.PromiseLaws.{refusal_listed, says_17, not_17}
 use Rattle.request.proofs.SpellingLaws.{spells_same, spelled_by}
 use Rattle.job.specs.declared.job.Job.{Job}
-use Rattle.job.specs.Jobs.{Stage, before_a, before_b, before_first, before_second, ended, End, State, goes_on, after, after_first, after_second, step}
-use Rattle.job.specs.Meaning.{stage_number, stages, numbered, stage_at, stage_count, stage_of, can_have, is_add, arguments_of, at_stage, numbers_listed}
-use Rattle.job.specs.Inner.{led}
+use Rattle.job.specs.declared.stage.Stage as code
+use Rattle.job.specs.declared.stage.Stage.TheVariants.{BeforeA, BeforeB, Done, Conflict, NoRoom, GaveUp, BeforeFirst, BeforeSecond, NotOurs, Gone, Kept}
+use Rattle.job.specs.Jobs.{Stage, possible, State, goes_on, step}
+use Rattle.job.specs.Meaning.{stage_number, stage_count, stage_of, or_kept, allowed, can_have, is_add, arguments_of, at_stage, numbers_listed}
+use Rattle.job.specs.Inner.{staged, Stands, led}
 use Rattle.job.proofs.AnswerLaws.{answer_number}
-use Rattle.job.proofs.StageLaws.{each_among, each_numbered, Listed, can_stage, can_a, can_b}
-use Rattle.job.proofs.JobLaws.{stage_of_lem}
-use Rattle.step.specs.declared.Stepped.{Stepped}
+use Rattle.job.proofs.StageLaws.{each_among}
+use Rattle.job.proofs.JobLaws.{number_back, listed_stage}
 use Rattle.step.specs.Promise.{step_refusal, step_of, StepPromise}
-use Rattle.step.specs.Inner.{Carried, Idle}
+use Rattle.step.specs.Inner.{policy_read, untouched, request_at, rule_of, SentPromise}
 
--- ---- the numbers of a job
+-- ---- a job that stands at a stage
 
-module _ (j : Job) (h : numbers_listed j ≡ true) where
-  pub numbers_zero : listed j.family 0 ≡ true
+module _ (j : Job) (s : code.Stage) (h : Stands j s) where
+  stage_is : stage_of j.stage j.count ≡ staged s j.count
+  unfolding stage_of
+  stage_is = ap or_kept h.at_is
+
+  number_is : stage_number (staged s j.count) ≡ j.stage
+  number_is = ap stage_number (sym stage_is) ∙ number_back j.stage j.count (listed_stage j h.listed_is)
+
+  possible_is : possible (staged s j.count) ≡ true
+  possible_is = unfold can_have in ap allowed (sym h.at_is) ∙ listed_stage j h.listed_is
+
+  listed_is : listed j.family (cond (is_add j.stage) j.policy 0) ≡ true
   unfolding numbers_listed
-  numbers_zero =
-      listed_zero j.family (cond (is_add j.stage) j.policy 0)
-      (and_left (listed j.family (cond (is_add j.stage) j.policy 0)) (can_have j.stage j.count) h)
+  listed_is = and_left (listed j.family (cond (is_add j.stage) j.policy 0)) (can_have j.stage j.count) h.listed_is
 
-  numbers_can : can_have j.stage j.count ≡ true
-  unfolding numbers_listed
-  numbers_can = and_right (listed j.family (cond (is_add j.stage) j.policy 0)) (can_have j.stage j.count) h
+  -- a stage keeps the count with which it was found
+  stays : at_stage j (staged s j.count) ≡ j
+  unfolding at_stage stage_count
+  stays = λ i. record {
+    stage = number_is i;
+    count = same s i;
+    family = j.family;
+    policy = j.policy;
+    name = j.name;
+    dhcid = j.dhcid;
+    address = j.address;
+  }
+    where
+      same : (s : code.Stage) → stage_count (staged s j.count) j.count ≡ j.count
+      same BeforeA = refl
+      same BeforeB = refl
+      same Done = refl
+      same Conflict = refl
+      same NoRoom = refl
+      same GaveUp = refl
+      same BeforeFirst = refl
+      same BeforeSecond = refl
+      same NotOurs = refl
+      same Gone = refl
+      same Kept = refl
 
-  can_at : (s : ℕ) → j.stage ≡ s → can_have s j.count ≡ true
-  can_at s e = ap (λ (t : ℕ). can_have t j.count) (sym e) ∙ numbers_can
+count_a : (j : Job) → Stands j BeforeA → j.count < 6
+count_a j h = each_among (λ n. n < 6) j.count (0 ∷ 2 ∷ 4 ∷ []) (omega arith, (omega arith, (omega arith, tt))) (unfold possible in possible_is j BeforeA h)
 
-  pub numbers_policy : j.stage ≡ 2 → listed j.family j.policy ≡ true
-  unfolding numbers_listed is_add
-  numbers_policy e =
-      ap (λ (s : ℕ). listed j.family (cond (leb s 6) j.policy 0)) (sym e)
-      ∙ and_left (listed j.family (cond (leb j.stage 6) j.policy 0)) (can_have j.stage j.count) h
+count_b : (j : Job) → Stands j BeforeB → j.count < 6
+count_b j h = each_among (λ n. n < 6) j.count (1 ∷ 3 ∷ 5 ∷ []) (omega arith, (omega arith, (omega arith, tt))) (unfold possible in possible_is j BeforeB h)
 
-  pub count_a : j.stage ≡ 1 → j.count < 6
-  count_a e = each_among (λ n. n < 6) j.count (0 ∷ 2 ∷ 4 ∷ []) (omega arith, (omega arith, (omega arith, tt))) (sym (can_a j.count) ∙ can_at 1 e)
+pub count_add : (j : Job) (s : code.Stage) → Stands j s → (s ≡ BeforeA) ⊎ (s ≡ BeforeB) → j.count < 6
+count_add j s h (inl e) = count_a j (subst (Stands j) e h)
+count_add j s h (inr e) = count_b j (subst (Stands j) e h)
 
-  pub count_b : j.stage ≡ 2 → j.count < 6
-  count_b e = each_among (λ n. n < 6) j.count (1 ∷ 3 ∷ 5 ∷ []) (omega arith, (omega arith, (omega arith, tt))) (sym (can_b j.count) ∙ can_at 2 e)
+-- the policy that a request reads is listed
+policy_listed : (j : Job) (s : code.Stage) → Stands j s → listed j.family (policy_read s j) ≡ true
+unfolding stage_number is_add
+policy_listed j s h = go s (number_is j s h)
+  where
+    zero : listed j.family 0 ≡ true
+    zero = listed_zero j.family (cond (is_add j.stage) j.policy 0) (listed_is j s h)
 
--- ---- the step that the rules make at each stage
+    go : (s : code.Stage) → stage_number (staged s j.count) ≡ j.stage → listed j.family (policy_read s j) ≡ true
+    go BeforeB e =
+        let two : ◌≡◌ {A = ℕ} 2 j.stage = e in
+        ap (λ (n : ℕ). listed j.family (cond (is_add n) j.policy 0)) two ∙ listed_is j s h
+    go BeforeA e = zero
+    go BeforeFirst e = zero
+    go BeforeSecond e = zero
+    go Done e = zero
+    go Conflict e = zero
+    go NoRoom e = zero
+    go GaveUp e = zero
+    go NotOurs e = zero
+    go Gone e = zero
+    go Kept e = zero
+
+-- the step that the rules make
+pub step_at : (z : Zone) (j : Job) (s : code.Stage) → Stands j s → step_of z j ≡ goes_on (request_at s j (zone_of z)) (rule_of s j.count)
+unfolding step arguments_of
+step_at z j s h = ap (step (arguments_of j) (zone_of z)) (stage_is j s h) ∙ go s
+  where
+    go : (s : code.Stage) → step (arguments_of j) (zone_of z) (staged s j.count) ≡ goes_on (request_at s j (zone_of z)) (rule_of s j.count)
+    go BeforeA = refl
+    go BeforeB = refl
+    go BeforeFirst = refl
+    go BeforeSecond = refl
+    go Done = refl
+    go Conflict = refl
+    go NoRoom = refl
+    go GaveUp = refl
+    go NotOurs = refl
+    go Gone = refl
+    go Kept = refl
+
+-- ---- a job that has ended
+
+-- a stage that sends no request
+pub record Idle (s : code.Stage) : Type 0 where
+  pub not_a : s ≡ BeforeA → ⊥
+  pub not_b : s ≡ BeforeB → ⊥
+  pub not_first : s ≡ BeforeFirst → ⊥
+  pub not_second : s ≡ BeforeSecond → ⊥
+
+pub idle_cases : (P : code.Stage → Type 0) → P Done → P Conflict → P NoRoom → P GaveUp → P NotOurs → P Gone → P Kept → (s : code.Stage) → Idle s → P s
+idle_cases P d c n g o m k BeforeA i = absurd (i.not_a refl)
+idle_cases P d c n g o m k BeforeB i = absurd (i.not_b refl)
+idle_cases P d c n g o m k BeforeFirst i = absurd (i.not_first refl)
+idle_cases P d c n g o m k BeforeSecond i = absurd (i.not_second refl)
+idle_cases P d c n g o m k Done i = d
+idle_cases P d c n g o m k Conflict i = c
+idle_cases P d c n g o m k NoRoom i = n
+idle_cases P d c n g o m k GaveUp i = g
+idle_cases P d c n g o m k NotOurs i = o
+idle_cases P d c n g o m k Gone i = m
+idle_cases P d c n g o m k Kept i = k
+
+-- it stays as it is
+pub idle_stays : (j : Job) (s : code.Stage) (x : ℕ) → Idle s → Stands j s → j ≡ led j (rule_of s j.count) x
+idle_stays j s x i =
+    idle_cases (λ s. Stands j s → j ≡ led j (rule_of s j.count) x)
+    (kept Done) (kept Conflict) (kept NoRoom) (kept GaveUp) (kept NotOurs) (kept Gone) (kept Kept) s i
+  where
+    kept : (s : code.Stage) → Stands j s → j ≡ at_stage j (staged s j.count)
+    kept s h = sym (stays j s h)
+
+-- ---- a zone that is only checked
+
+pub form_checked : (z : Zone) (n : Octets) (family : ℕ) → refusal_of z n family 0 ≡ 0 → formed z ≡ true
+form_checked z n family q = not_17 z n family 0 (λ p. let t : ◌≡◌ {A = ℕ} 17 0 = sym p ∙ q in omega arith)
+
+pub checked : (z : Zone) (n : Octets) (right refusal : ℕ) → refusal ≡ right → (right ≡ 0 → formed z ≡ true)
+    → Promised z n right (untouched (zone_of z)) (record { refusal = refusal; answer = 0; zone = z })
+checked z n right refusal e f = record {
+  refusal_is = e;
+  answer_is = answered (eqb right 0);
+  kept = λ d. refl;
+  unchanged = λ q. refl;
+  done = λ q. refl;
+  formed_again = f;
+  spelled = λ q. spelled_by n z z (spells_same n z z refl) (zone_of z) refl;
+}
+  where
+    answered : (b : Bool) → ◌≡◌ {A = ℕ} 0 (cond b (number_of success) 0)
+    answered true = sym number_success
+    answered false = refl
+
+-- what a job that has ended gets of it
+pub sent_idle : (z : Zone) (j : Job) (s : code.Stage) (refusal : ℕ) → Idle s → refusal ≡ refusal_of z (name_of j.name) j.family 0
+    → SentPromise z j s (record { refusal = refusal; answer = 0; zone = z })
+sent_idle z j s refusal i e =
+    let k = checked z (name_of j.name) (refusal_of z (name_of j.name) j.family 0) refusal e (form_checked z (name_of j.name) j.family) in
+    idle_cases (λ s. SentPromise z j s (record { refusal = refusal; answer = 0; zone = z })) k k k k k k k s i
+
+-- ---- the step
 
 module _ (z : Zone) (j : Job) where
-  at_stage_lem : (s : ℕ) → j.stage ≡ s → step_of z j ≡ step (arguments_of j) (zone_of z) (stage_of s j.count)
-  at_stage_lem s e = ap (λ (t : ℕ). step (arguments_of j) (zone_of z) (stage_of t j.count)) e
-
-  pub step_at_a : j.stage ≡ 1 → step_of z j ≡ goes_on (request_a (update_of j.name j.dhcid j.family j.address) (zone_of z)) (after (j.count + 1))
-  step_at_a e = at_stage_lem 1 e ∙ (unfold arguments_of stage_of stage_at numbered stage_number step in rw (add-one j.count) refl)
-
-  pub step_at_b : j.stage ≡ 2
-      → step_of z j ≡ goes_on (request_b (policy_of j.policy) (update_of j.name j.dhcid j.family j.address) (zone_of z)) (after (j.count + 1))
-  step_at_b e = at_stage_lem 2 e ∙ (unfold arguments_of stage_of stage_at numbered stage_number step in rw (add-one j.count) refl)
-
-  pub step_at_first : j.stage ≡ 11 → step_of z j ≡ goes_on (remove_address (update_of j.name j.dhcid j.family j.address) (zone_of z)) after_first
-  step_at_first e = at_stage_lem 11 e ∙ (unfold arguments_of stage_of stage_at numbered stage_number step in refl)
-
-  pub step_at_second : j.stage ≡ 12 → step_of z j ≡ goes_on (remove_name (update_of j.name j.dhcid j.family j.address) (zone_of z)) after_second
-  step_at_second e = at_stage_lem 12 e ∙ (unfold arguments_of stage_of stage_at numbered stage_number step in refl)
-
-  -- ---- one refusal for the request and for the step
-
+  -- one refusal for the request and for the step
   refusal_same : (p : ℕ) → numbers_listed j ≡ true → listed j.family p ≡ true → refusal_of z (name_of j.name) j.family p ≡ step_refusal z j
   unfolding step_refusal
   refusal_same p h l = refusal_listed z (name_of j.name) j.family p l ∙ sym (rw h refl)
 
-  -- ---- a stage that sends a request
-
-  pub step_kept : (p : ℕ) (o : Outcome) (rule : Answer → Stage) (sent : Answered) (next : Job) (r : Stepped)
-      → numbers_listed j ≡ true → listed j.family p ≡ true → step_of z j ≡ goes_on o rule
-      → Promised z (name_of j.name) (refusal_of z (name_of j.name) j.family p) o sent → next ≡ led j rule sent.answer → Carried sent j next r → StepPromise z j r
-  step_kept p o rule sent next r h l s m leads c = record {
-    refusal_is = c.refusal_is ∙ k.refusal_is;
-    zone_kept = λ n. c.zone_is ∙ k.kept n;
-    unchanged = λ e. c.zone_is ∙ k.unchanged (ap (λ (w : State). w.zone) (sym s) ∙ e);
-    job_kept = λ n. c.job_is ∙ ap (λ (b : Bool). cond b next j) (ne_eqb sent.refusal 0 (λ e. n (sym k.refusal_is ∙ e)));
-    zone_is = λ e. ap zone_of c.zone_is ∙ k.done e ∙ ap (λ (w : State). w.zone) (sym s);
-    formed_again = λ e. ap formed c.zone_is ∙ k.formed_again e;
-    spelled = λ e. ap spelling_of c.zone_is ∙ k.spelled e ∙ ap (λ (w : State). respelled (name_of j.name) w.zone (spelling_of z)) (sym s);
-    job_is = λ e. c.job_is ∙ ap (λ (b : Bool). cond b next j) (eq-eqb sent.refusal 0 (k.refusal_is ∙ e))
-        ∙ leads ∙ ap (led j rule) (k.answer_is ∙ ap (λ (b : Bool). cond b (number_of o.answer) 0) (eq-eqb (step_refusal z j) 0 e))
+  pub step_kept : (s : code.Stage) (sent : Answered) (next : Job) → Stands j s → SentPromise z j s sent
+      → next ≡ cond (eqb sent.refusal 0) (led j (rule_of s j.count) sent.answer) j → StepPromise z j (record { refusal = sent.refusal; zone = sent.zone; job = next })
+  step_kept s sent next h m c = record {
+    refusal_is = k.refusal_is;
+    zone_kept = k.kept;
+    unchanged = λ e. k.unchanged (ap (λ (w : State). w.zone) (sym t) ∙ e);
+    job_kept = λ n. c ∙ ap (λ (b : Bool). cond b way j) (ne_eqb sent.refusal 0 (λ e. n (sym k.refusal_is ∙ e)));
+    zone_is = λ e. k.done e ∙ ap (λ (w : State). w.zone) (sym t);
+    formed_again = k.formed_again;
+    spelled = λ e. k.spelled e ∙ ap (λ (w : State). respelled (name_of j.name) w.zone (spelling_of z)) (sym t);
+    job_is = λ e. c ∙ ap (λ (b : Bool). cond b way j) (eq-eqb sent.refusal 0 (k.refusal_is ∙ e))
+        ∙ ap (led j rule) (k.answer_is ∙ ap (λ (b : Bool). cond b (number_of o.answer) 0) (eq-eqb (step_refusal z j) 0 e))
         ∙ ap (λ (a : Answer). at_stage j (rule a)) (answer_number o.answer)
-        ∙ ap (λ (w : State). at_stage j w.stage) (sym s);
+        ∙ ap (λ (w : State). at_stage j w.stage) (sym t);
   }
     where
+      o : Outcome
+      o = request_at s j (zone_of z)
+
+      rule : Answer → Stage
+      rule = rule_of s j.count
+
+      way : Job
+      way = led j rule sent.answer
+
+      t : step_of z j ≡ goes_on o rule
+      t = step_at z j s h
+
       k : Promised z (name_of j.name) (step_refusal z j) o sent
-      k = subst (λ (n : ℕ). Promised z (name_of j.name) n o sent) (refusal_same p h l) m
+      k = subst (λ (n : ℕ). Promised z (name_of j.name) n o sent) (refusal_same (policy_read s j) h.listed_is (policy_listed j s h)) m
 
   -- ---- numbers that are not listed
 
@@ -141,72 +260,3 @@ module _ (z : Zone) (j : Job) where
         spelled = λ q. absurd (omega arith);
         job_is = λ q. absurd (omega arith);
       }
-
--- ---- a job that has ended
-
-record Over (s n : ℕ) : Type 0 where
-  end : End
-  is : stage_of s n ≡ ended end
-  number : stage_number (ended end) ≡ s
-  count : stage_count (ended end) n ≡ n
-
--- a stage keeps the count with which it was found
-counted_same : (number count : ℕ) (s : Stage) → stage_at number count ≡ some s → stage_count s count ≡ count
-unfolding stage_at stage_count
-counted_same number count s e =
-    each_numbered (λ t. stage_count t count ≡ count) number (stages count) s
-    (refl, (refl, (refl, (refl, (refl, (refl, (refl, (refl, (refl, (refl, (refl, tt))))))))))) e
-
-over : (s n : ℕ) → can_have s n ≡ true → Idle s → Over s n
-over s n c i = go l.stage refl l.number_is
-  where
-    l : Listed s n
-    l = can_stage s n c
-
-    go : (t : Stage) → l.stage ≡ t → stage_number l.stage ≡ s → Over s n
-    go (before_a m) e k = absurd (i.not_a (sym k ∙ ap stage_number e ∙ (unfold stage_number in refl)))
-    go (before_b m) e k = absurd (i.not_b (sym k ∙ ap stage_number e ∙ (unfold stage_number in refl)))
-    go before_first e k = absurd (i.not_first (sym k ∙ ap stage_number e ∙ (unfold stage_number in refl)))
-    go before_second e k = absurd (i.not_second (sym k ∙ ap stage_number e ∙ (unfold stage_number in refl)))
-    go (ended d) e k = record {
-      end = d;
-      is = stage_of_lem s n l ∙ e;
-      number = ap stage_number (sym e) ∙ k;
-      count = ap (λ (t : Stage). stage_count t n) (sym e) ∙ counted_same s n l.stage l.found;
-    }
-
-pub step_idle : (z : Zone) (j : Job) (refusal : ℕ) → numbers_listed j ≡ true → Idle j.stage → refusal ≡ refusal_of z (name_of j.name) j.family 0
-    → StepPromise z j (record { refusal = refusal; zone = z; job = j })
-step_idle z j refusal h i e = record {
-  refusal_is = e ∙ same;
-  zone_kept = λ n. refl;
-  unchanged = λ q. refl;
-  job_kept = λ n. refl;
-  zone_is = λ q. sym (ap (λ (w : State). w.zone) stays);
-  formed_again = λ q. formed_is q;
-  spelled = λ q. spelled_by (name_of j.name) z z (spells_same (name_of j.name) z z refl) (step_of z j).zone (sym (ap (λ (w : State). w.zone) stays));
-  job_is = λ q. same_job ∙ ap (λ (w : State). at_stage j w.stage) (sym stays);
-}
-  where
-    same : refusal_of z (name_of j.name) j.family 0 ≡ step_refusal z j
-    same = refusal_same z j 0 h (numbers_zero j h)
-
-    o : Over j.stage j.count
-    o = over j.stage j.count (numbers_can j h) i
-
-    stays : step_of z j ≡ record { zone = zone_of z; stage = ended o.end }
-    stays = ap (step (arguments_of j) (zone_of z)) o.is ∙ (unfold step in refl)
-
-    formed_is : step_refusal z j ≡ 0 → formed z ≡ true
-    formed_is q = form_holds z j 0 (λ p. let t : ◌≡◌ {A = ℕ} 17 0 = sym p ∙ same ∙ q in omega arith)
-
-    same_job : j ≡ at_stage j (ended o.end)
-    same_job = unfold at_stage in λ k. record {
-      stage = sym o.number k;
-      count = sym o.count k;
-      family = j.family;
-      policy = j.policy;
-      name = j.name;
-      dhcid = j.dhcid;
-      address = j.address;
-    }

@@ -1,15 +1,17 @@
 // The step of a job on a zone that is lent: 23,936 octets in the layout of the C struct, read and
 // written where they stand.
-ghost use Rattle.std.specs.Prelude.{◌≡◌, true, false};
+ghost use Rattle.std.specs.Prelude.{◌≡◌, false};
 ghost use Rattle.job.specs.Meaning.{numbers_listed};
 ghost use Rattle.step.specs.Lent.{StepPromiseIn};
-ghost use Rattle.step.specs.Inner.{CarriedIn, Idle};
+ghost use Rattle.step.specs.Inner.{SentPromiseIn};
 
+use crate::onward::onward;
 use crate::{BROKEN_ZONE, UNLISTED_NUMBER};
 use job::job::Job;
-use job::{answer, stage};
-use request::lent;
+use job::stage;
+use job::stage::Stage;
 use request::lent::RequestAnswer;
+use request::{answer, lent};
 
 // refusal: the number of document 01's table, 0 where there is none; 17 too where the octets are not
 // 23,936.
@@ -20,90 +22,36 @@ pub struct StepAnswer {
     pub job: Job,
 }
 
-// The job as it goes on unless the request was refused.
-fn carried(sent: RequestAnswer, job: Job, next: Job) -> StepAnswer
-    ensures { CarriedIn sent job next result }
+// The request that a stage asks for. A job that has ended sends none, and its zone is only checked.
+fn send(octets: &mut [u8], job: &Job, stage: Stage) -> RequestAnswer
+    ensures { SentPromiseIn octets.old job.now stage octets.new result }
 {
-    if sent.refusal != 0 {
-        return StepAnswer {
-            refusal: sent.refusal,
-            job: job,
-        };
-    }
-    StepAnswer {
-        refusal: 0,
-        job: next,
-    }
-}
-
-// An add before request A.
-fn step_a(octets: &mut [u8], job: Job) -> StepAnswer
-    requires { (numbers_listed job ≡ true) × (job.stage ≡ 1) }
-    ensures { StepPromiseIn octets.old job octets.new result }
-{
-    let sent = lent::jespurla_request_a_lent(octets, job.name, job.dhcid, job.family, job.address);
-    let next = answer::after_add(job, job.count + 1, sent.answer);
-    carried(sent, job, next)
-}
-
-// An add before request B.
-fn step_b(octets: &mut [u8], job: Job) -> StepAnswer
-    requires { (numbers_listed job ≡ true) × (job.stage ≡ 2) }
-    ensures { StepPromiseIn octets.old job octets.new result }
-{
-    let sent = lent::jespurla_request_b_lent(
-        octets,
-        job.name,
-        job.dhcid,
-        job.family,
-        job.address,
-        job.policy,
-    );
-    let next = answer::after_add(job, job.count + 1, sent.answer);
-    carried(sent, job, next)
-}
-
-// A remove before its first request.
-fn step_first(octets: &mut [u8], job: Job) -> StepAnswer
-    requires { (numbers_listed job ≡ true) × (job.stage ≡ 11) }
-    ensures { StepPromiseIn octets.old job octets.new result }
-{
-    let sent = lent::jespurla_request_remove_address_lent(
-        octets,
-        job.name,
-        job.dhcid,
-        job.family,
-        job.address,
-    );
-    let next = answer::after_first(job, sent.answer);
-    carried(sent, job, next)
-}
-
-// A remove before its second request.
-fn step_second(octets: &mut [u8], job: Job) -> StepAnswer
-    requires { (numbers_listed job ≡ true) × (job.stage ≡ 12) }
-    ensures { StepPromiseIn octets.old job octets.new result }
-{
-    let sent = lent::jespurla_request_remove_name_lent(
-        octets,
-        job.name,
-        job.dhcid,
-        job.family,
-        job.address,
-    );
-    let next = answer::after_second(job, sent.answer);
-    carried(sent, job, next)
-}
-
-// A job that has ended: nothing is sent, and nothing changes.
-fn step_ended(octets: &mut [u8], job: Job) -> StepAnswer
-    requires { (numbers_listed job ≡ true) × Idle job.stage }
-    ensures { StepPromiseIn octets.old job octets.new result }
-{
-    let checked = lent::jespurla_zone_check_lent(octets, job.name, job.family, 0);
-    StepAnswer {
-        refusal: checked.refusal,
-        job: job,
+    let Job {
+        name,
+        dhcid,
+        family,
+        policy,
+        address,
+        ..
+    } = *job;
+    match stage {
+        Stage::BeforeA => lent::jespurla_request_a_lent(octets, name, dhcid, family, address),
+        Stage::BeforeB => lent::jespurla_request_b_lent(
+            octets, name, dhcid, family, address, policy,
+        ),
+        Stage::BeforeFirst => {
+            lent::jespurla_request_remove_address_lent(octets, name, dhcid, family, address)
+        }
+        Stage::BeforeSecond => {
+            lent::jespurla_request_remove_name_lent(octets, name, dhcid, family, address)
+        }
+        _ => {
+            let checked = lent::jespurla_zone_check_lent(octets, name, family, 0);
+            RequestAnswer {
+                refusal: checked.refusal,
+                answer: answer::SUCCESS,
+            }
+        }
     }
 }
 
@@ -113,37 +61,24 @@ fn refuse(octets: &mut [u8], job: Job) -> StepAnswer
     ensures { StepPromiseIn octets.old job octets.new result }
 {
     let checked = lent::jespurla_zone_check_lent(octets, job.name, job.family, 0);
-    if checked.refusal == BROKEN_ZONE {
-        return StepAnswer {
-            refusal: BROKEN_ZONE,
-            job: job,
-        };
-    }
-    StepAnswer {
-        refusal: UNLISTED_NUMBER,
-        job: job,
-    }
+    let refusal = if checked.refusal == BROKEN_ZONE {
+        BROKEN_ZONE
+    } else {
+        UNLISTED_NUMBER
+    };
+    StepAnswer { refusal, job }
 }
 
 // One step.
 pub fn jespurla_job_step_lent(octets: &mut [u8], job: Job) -> StepAnswer
     ensures { StepPromiseIn octets.old job octets.new result }
 {
-    if !stage::are_numbers_listed(job) {
+    let Ok(stage) = stage::listed_stage(&job) else {
         return refuse(octets, job);
+    };
+    let sent = send(octets, &job, stage);
+    StepAnswer {
+        refusal: sent.refusal,
+        job: onward(job, stage, sent.refusal, sent.answer),
     }
-    let at = job.stage;
-    if at == stage::BEFORE_A {
-        return step_a(octets, job);
-    }
-    if at == stage::BEFORE_B {
-        return step_b(octets, job);
-    }
-    if at == stage::BEFORE_FIRST {
-        return step_first(octets, job);
-    }
-    if at == stage::BEFORE_SECOND {
-        return step_second(octets, job);
-    }
-    step_ended(octets, job)
 }

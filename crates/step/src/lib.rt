@@ -4,15 +4,18 @@
 #![tactic(auto)]
 
 pub mod lent;
+mod onward;
 
-ghost use Rattle.std.specs.Prelude.{◌≡◌, true, false};
+ghost use Rattle.std.specs.Prelude.{◌≡◌, false};
 ghost use Rattle.job.specs.Meaning.{numbers_listed};
 ghost use Rattle.step.specs.Promise.{StepPromise};
-ghost use Rattle.step.specs.Inner.{Carried, Idle};
+ghost use Rattle.step.specs.Inner.{SentPromise};
 
+use crate::onward::onward;
 use job::job::Job;
-use job::{answer, stage};
-use request::Answered;
+use job::stage;
+use job::stage::Stage;
+use request::{Answered, answer};
 use zone::Zone;
 
 // Refusals of document 01.
@@ -29,94 +32,35 @@ pub struct Stepped {
     pub job: Job,
 }
 
-// What a request came to, with the job as it goes on unless the request was refused.
-fn carried(sent: Answered, job: Job, next: Job) -> Stepped
-    ensures { Carried sent job next result }
+// The request that a stage asks for. A job that has ended sends none, and its zone is only checked.
+fn send(zone: Zone, job: &Job, stage: Stage) -> Answered
+    ensures { SentPromise zone job.now stage result }
 {
-    let zone = sent.zone;
-    if sent.refusal != 0 {
-        return Stepped {
-            refusal: sent.refusal,
-            zone: zone,
-            job: job,
-        };
-    }
-    Stepped {
-        refusal: 0,
-        zone: zone,
-        job: next,
-    }
-}
-
-// An add before request A.
-fn step_a(zone: Zone, job: Job) -> Stepped
-    requires { (numbers_listed job ≡ true) × (job.stage ≡ 1) }
-    ensures { StepPromise zone job result }
-{
-    let sent = request::jespurla_request_a(zone, job.name, job.dhcid, job.family, job.address);
-    let next = answer::after_add(job, job.count + 1, sent.answer);
-    carried(sent, job, next)
-}
-
-// An add before request B.
-fn step_b(zone: Zone, job: Job) -> Stepped
-    requires { (numbers_listed job ≡ true) × (job.stage ≡ 2) }
-    ensures { StepPromise zone job result }
-{
-    let sent = request::jespurla_request_b(
-        zone,
-        job.name,
-        job.dhcid,
-        job.family,
-        job.address,
-        job.policy,
-    );
-    let next = answer::after_add(job, job.count + 1, sent.answer);
-    carried(sent, job, next)
-}
-
-// A remove before its first request.
-fn step_first(zone: Zone, job: Job) -> Stepped
-    requires { (numbers_listed job ≡ true) × (job.stage ≡ 11) }
-    ensures { StepPromise zone job result }
-{
-    let sent = request::jespurla_request_remove_address(
-        zone,
-        job.name,
-        job.dhcid,
-        job.family,
-        job.address,
-    );
-    let next = answer::after_first(job, sent.answer);
-    carried(sent, job, next)
-}
-
-// A remove before its second request.
-fn step_second(zone: Zone, job: Job) -> Stepped
-    requires { (numbers_listed job ≡ true) × (job.stage ≡ 12) }
-    ensures { StepPromise zone job result }
-{
-    let sent = request::jespurla_request_remove_name(
-        zone,
-        job.name,
-        job.dhcid,
-        job.family,
-        job.address,
-    );
-    let next = answer::after_second(job, sent.answer);
-    carried(sent, job, next)
-}
-
-// A job that has ended: nothing is sent, and nothing changes. Its policy is listed already.
-fn step_ended(zone: Zone, job: Job) -> Stepped
-    requires { (numbers_listed job ≡ true) × Idle job.stage }
-    ensures { StepPromise zone job result }
-{
-    let checked = request::jespurla_zone_check(zone, job.name, job.family, 0);
-    Stepped {
-        refusal: checked.refusal,
-        zone: zone,
-        job: job,
+    let Job {
+        name,
+        dhcid,
+        family,
+        policy,
+        address,
+        ..
+    } = *job;
+    match stage {
+        Stage::BeforeA => request::jespurla_request_a(zone, name, dhcid, family, address),
+        Stage::BeforeB => request::jespurla_request_b(zone, name, dhcid, family, address, policy),
+        Stage::BeforeFirst => {
+            request::jespurla_request_remove_address(zone, name, dhcid, family, address)
+        }
+        Stage::BeforeSecond => {
+            request::jespurla_request_remove_name(zone, name, dhcid, family, address)
+        }
+        _ => {
+            let checked = request::jespurla_zone_check(zone, name, family, 0);
+            Answered {
+                refusal: checked.refusal,
+                answer: answer::SUCCESS,
+                zone,
+            }
+        }
     }
 }
 
@@ -126,39 +70,25 @@ fn refuse(zone: Zone, job: Job) -> Stepped
     ensures { StepPromise zone job result }
 {
     let checked = request::jespurla_zone_check(zone, job.name, job.family, 0);
-    if checked.refusal == BROKEN_ZONE {
-        return Stepped {
-            refusal: BROKEN_ZONE,
-            zone: zone,
-            job: job,
-        };
-    }
-    Stepped {
-        refusal: UNLISTED_NUMBER,
-        zone: zone,
-        job: job,
-    }
+    let refusal = if checked.refusal == BROKEN_ZONE {
+        BROKEN_ZONE
+    } else {
+        UNLISTED_NUMBER
+    };
+    Stepped { refusal, zone, job }
 }
 
 // One step. The zone's form is checked once, by the request or by the check alone.
 pub fn jespurla_job_step(zone: Zone, job: Job) -> Stepped
     ensures { StepPromise zone job result }
 {
-    if !stage::are_numbers_listed(job) {
+    let Ok(stage) = stage::listed_stage(&job) else {
         return refuse(zone, job);
+    };
+    let sent = send(zone, &job, stage);
+    Stepped {
+        refusal: sent.refusal,
+        zone: sent.zone,
+        job: onward(job, stage, sent.refusal, sent.answer),
     }
-    let at = job.stage;
-    if at == stage::BEFORE_A {
-        return step_a(zone, job);
-    }
-    if at == stage::BEFORE_B {
-        return step_b(zone, job);
-    }
-    if at == stage::BEFORE_FIRST {
-        return step_first(zone, job);
-    }
-    if at == stage::BEFORE_SECOND {
-        return step_second(zone, job);
-    }
-    step_ended(zone, job)
 }

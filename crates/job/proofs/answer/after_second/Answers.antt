@@ -1,9 +1,12 @@
 use Rattle.std.proofs.Common.{◌∙◌}
-use Rattle.job.proofs.AnswerLaws.{leads_gone, leads_kept}
+use Rattle.job.specs.Jobs.{after_second}
+use Rattle.job.proofs.AnswerLaws.{led_passed, led_failed}
 use Rattle.job.proofs.answer.after_second.Goals as goal
 
 pub returns-then-answer-eq-SUCCESS : goal.returns-then-answer-eq-SUCCESS
-returns-then-answer-eq-SUCCESS c = c.moved.ensures ∙ leads_gone _ _ c.if-answer-eq-SUCCESS.true
+unfolding after_second
+returns-then-answer-eq-SUCCESS c = c.moved.ensures ∙ led_passed _ _ _ _ c.if-answer-eq-SUCCESS.true
 
-pub returns : goal.returns
-returns c = c.moved-2.ensures ∙ leads_kept _ _ c.if-answer-eq-SUCCESS.false
+pub returns-else-answer-eq-SUCCESS : goal.returns-else-answer-eq-SUCCESS
+unfolding after_second
+returns-else-answer-eq-SUCCESS c = c.moved-else-answer-eq-SUCCESS.ensures ∙ led_failed _ _ _ _ c.if-answer-eq-SUCCESS.false

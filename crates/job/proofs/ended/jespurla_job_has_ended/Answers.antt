@@ -1,12 +1,14 @@
-use Rattle.std.proofs.Common.{sym}
-use Rattle.job.proofs.StageLaws.{ended_add, ended_remove, not_ended}
+use Rattle.std.proofs.Common.{◌≡◌, ◌∙◌, sym, refl, ap, Bool, true, false, cond}
+use mir.Val.{bool_byte}
+use Rattle.job.proofs.StageLaws.{ended_staged, unlisted_goes_on}
 use Rattle.job.proofs.ended.jespurla_job_has_ended.Goals as goal
 
-pub returns-then-is_between : goal.returns-then-is_between
-returns-then-is_between c = sym (ended_add c.args.job (sym c.if-is_between.ensures))
+byte : (b : Bool) → bool_byte b ≡ cond b 1 0
+byte true = refl
+byte false = refl
 
-pub returns-then-is_between-2 : goal.returns-then-is_between-2
-returns-then-is_between-2 c = sym (ended_remove c.args.job (sym c.if-is_between.ensures) (sym c.if-is_between-2.ensures))
+pub returns-in-Ok : goal.returns-in-Ok
+returns-in-Ok c = c.from.ensures ∙ byte _ ∙ ap (λ (b : Bool). cond b 1 0) c.is_end.ensures ∙ sym (ended_staged c.args.job c.in-Ok.stage c.in-Ok.ensures)
 
-pub returns : goal.returns
-returns c = sym (not_ended c.args.job (sym c.if-is_between.ensures) (sym c.if-is_between-2.ensures))
+pub returns-in-Err : goal.returns-in-Err
+returns-in-Err c = sym (unlisted_goes_on c.args.job (c.in-Err.ensures c.args.job.count))
