@@ -6,7 +6,7 @@ use Prim.Native.Nat.{ℕ, zero, suc, ◌+◌, ◌*◌, ◌-◌, ◌<◌}
 use native.Mathlib.Decide.{ℕ_discrete}
 use native.Mathlib.Omega.{arith}
 use lib.Dec.{ltb}
-use lib.ListN.{length, get_or, set, take, drop, length-drop, length-set}
+use lib.ListN.{length, get_or, set, drop, length-drop, length-set}
 use lib.Seq.{length-take-le, get_or-set_same, get_or-set_other}
 use borrow.Author.Tests.{eq-eqb, ltb-true, lt-ltb}
 use borrow.Table.Steps.{cases}
@@ -29,11 +29,6 @@ use Rattle.request.proofs.PlaceLaws.{Alone, None, alone_found, here_at, here_non
 use Rattle.zonesame.specs.Inner.{Fingerprints, spelled_so}
 
 -- ---- the octets of a place
-
-pub row_part : (z : List ℕ) (place : ℕ) → length z ≡ 23936 → place < 64 → take (place * 374 + 374 - place * 374) (drop (place * 374) z) ≡ row_at z place
-row_part z place l h =
-    let k : place * 374 + 374 - place * 374 ≡ 374 = omega arith in
-    ap (λ (n : ℕ). take n (drop (place * 374) z)) k ∙ row_there z place l h
 
 pub row_length : (z : List ℕ) (place : ℕ) → length z ≡ 23936 → place < 64 → length (row_at z place) ≡ 374
 row_length z place l h =

@@ -6,7 +6,6 @@ use mathlib.Core.Option.{Option, some}
 use Prim.Native.Nat.{ℕ, ◌+◌, ◌≤◌, ◌<◌}
 use native.Mathlib.Numerals.{add-one}
 use lib.Dec.{ltb}
-use native.Mathlib.Omega.{arith}
 use lib.ListN.{length, get_or, drop, drop_of_length-le}
 use lib.Seq.{drop-cons}
 use borrow.Author.Tests.{eq-eqb, ltb-true, lt-ltb, le-ltb}
@@ -63,21 +62,6 @@ module _ (z : List ℕ) (es : List Entry) (d : Entry) (i : ℕ) (h : i < length 
 pub stand_end : (z : List ℕ) (es : List Entry) (i : ℕ) → length es ≤ i → all_stand z (drop i es) ≡ true
 unfolding all_stand
 stand_end z es i h = rw (drop_of_length-le es h)
-
--- ---- the names counted
-
-module _ (es : List Entry) (d : Entry) (i : ℕ) (h : i < length es) where
-  pub count_used : used (get_or es i d) ≡ true → length (keys (drop i es)) ≡ 1 + length (keys (drop (i + 1) es))
-  unfolding keys
-  count_used u = rw (add-one, drop-cons es i d h, u) (omega arith)
-
-  pub count_free : used (get_or es i d) ≡ false → length (keys (drop i es)) ≡ length (keys (drop (i + 1) es))
-  unfolding keys
-  count_free u = rw (add-one, drop-cons es i d h, u)
-
-pub count_end : (es : List Entry) (i : ℕ) → length es ≤ i → length (keys (drop i es)) ≡ 0
-unfolding keys
-count_end es i h = rw (drop_of_length-le es h)
 
 -- ---- what it means, in a zone of good form
 

@@ -1,5 +1,5 @@
 -- What inner functions promise. No promise of an exported call cites these.
-use Rattle.std.specs.Prelude.{◌≡◌, Bool, true, false, cond, ◌&&◌, List, [], ◌∷◌, ℕ, ◌<◌, eqb, ltb, length, get_or}
+use Rattle.std.specs.Prelude.{◌≡◌, Bool, true, false, cond, ◌&&◌, List, [], ◌∷◌, ℕ, ◌≤◌, ◌<◌, eqb, ltb, length, get_or, Option, MatchOption}
 use Rattle.octets.specs.Compare.{same_octets}
 use Rattle.octets.specs.Count.{Octets}
 use Rattle.addresses.specs.Addresses.{list4, list6, within}
@@ -15,6 +15,10 @@ use Rattle.lentzone.specs.Inner.{place_in, row_at, records_at, name_at}
 pub record Tells (claim : Type 0) (r : Bool) : Type 0 where
   pub told : r ≡ true → claim
   pub tells : claim → r ≡ true
+
+-- a place, none where it is 64 or more
+abbrev pub At : ℕ → Option ℕ → Type 0
+At place r = MatchOption r (64 ≤ place) (λ p. (p ≡ place) × (p < 64))
 
 -- ---- the fingerprints of names
 

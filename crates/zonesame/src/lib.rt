@@ -4,18 +4,21 @@
 #![tactic(auto)]
 
 mod count;
+mod directory;
 mod host;
 mod places;
-mod search;
 mod stand;
 
-ghost use Rattle.std.specs.Prelude.{◌≡◌, true, cond, ◌&&◌};
+ghost use Rattle.std.specs.Prelude.{◌≡◌, true, ◌&&◌};
 ghost use Rattle.update.specs.Meaning.{zone_of};
 ghost use Rattle.lentzone.specs.Decode.{zone_in, is_zone};
 ghost use Rattle.zonesame.specs.Same.{SamePromise};
 ghost use Rattle.zonesame.specs.Inner.{Tells};
 
 use lentzone::survey;
+
+// A refusal of document 01.
+const BROKEN_ZONE: u32 = 17;
 
 // refusal: 17 where the octets of either are not 23,936 or its zone breaks its form, else 0. same: 1
 // or 0; beside a refusal 0.
@@ -30,21 +33,15 @@ pub struct SameAnswer {
 fn is_zone(z: &[u8]) -> bool
     ensures { result ≡ is_zone z.now }
 {
-    let s = survey::survey_in(z, &z[..0]);
-    if !s.inorder {
-        return false;
-    }
-    s.distinct
+    let s = survey::survey_in(z, &[]);
+    s.inorder && s.distinct
 }
 
 // Whether both hold a zone.
 fn are_zones(left: &[u8], right: &[u8]) -> bool
     ensures { result ≡ (is_zone left.now && is_zone right.now) }
 {
-    if !is_zone(left) {
-        return false;
-    }
-    is_zone(right)
+    is_zone(left) && is_zone(right)
 }
 
 // Whether there are as many names in one zone as in the other, and all that stands in the first stands
@@ -53,18 +50,7 @@ fn is_same(left: &[u8], right: &[u8]) -> bool
     requires { (is_zone left.now && is_zone right.now) ≡ true }
     ensures { Tells (zone_of (zone_in left.now) ≡ zone_of (zone_in right.now)) result }
 {
-    let names = count::names_in(left);
-    let others = count::names_in(right);
-    if names != others {
-        return false;
-    }
-    stand::all_stand(left, right)
-}
-
-fn as_number(b: bool) -> u32
-    ensures { result ≡ cond b 1 0 }
-{
-    if b { 1 } else { 0 }
+    count::names_in(left) == count::names_in(right) && stand::all_stand(left, right)
 }
 
 // Whether two zones are the same.
@@ -73,13 +59,12 @@ pub fn jespurla_zone_same(left: &[u8], right: &[u8]) -> SameAnswer
 {
     if !are_zones(left, right) {
         return SameAnswer {
-            refusal: 17,
+            refusal: BROKEN_ZONE,
             same: 0,
         };
     }
-    let same = is_same(left, right);
     SameAnswer {
         refusal: 0,
-        same: as_number(same),
+        same: u32::from(is_same(left, right)),
     }
 }

@@ -1,9 +1,9 @@
-use borrow.Author.Tests.{not-true, not-false}
+use Rattle.std.proofs.Common.{◌∙◌}
 use Rattle.zonesame.proofs.SameLaws.{survey_broken, survey_rest}
 use Rattle.zonesame.proofs.is_zone.Goals as goal
 
-pub returns-then-not-s : goal.returns-then-not-s
-returns-then-not-s c = survey_broken _ _ _ c.survey_in-s.ensures (not-true _ c.if-not-s.true)
+pub returns-then-s : goal.returns-then-s
+returns-then-s c = survey_rest _ _ _ c.survey_in-s.ensures c.if-s.true
 
-pub returns : goal.returns
-returns c = survey_rest _ _ _ c.survey_in-s.ensures (not-false _ c.if-not-s.false)
+pub returns-else-s : goal.returns-else-s
+returns-else-s c = c.if-s.false ∙ survey_broken _ _ _ c.survey_in-s.ensures c.if-s.false
