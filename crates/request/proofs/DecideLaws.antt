@@ -2,7 +2,7 @@
 use mathlib.Core.Path.{◌≡◌, refl, sym, ◌∙◌, ap}
 use mathlib.Core.Bool.{Bool, true, false, cond}
 use mathlib.Core.Option.{Option, none, some}
-use Prim.Native.Nat.{ℕ, ◌<◌}
+use Prim.Native.Nat.{ℕ, ◌≤◌, ◌<◌}
 use native.Mathlib.Omega.{arith}
 use lib.Dec.{eqb}
 use lib.ListN.{get_or}
@@ -69,9 +69,9 @@ module _ (s : Survey) (sent : Sent) where
 
   -- what stands at the name, by the survey
   module _ {z : Zone} (n : Name) (g : formed z ≡ true) (v : Found z (name_of n) s) where
-    absent : ¬ (s.found < 64) → (zone_of z).at (key (u n).name) ≡ none
+    absent : 64 ≤ s.found → (zone_of z).at (key (u n).name) ≡ none
     unfolding update_of
-    absent h = not_found z g (name_of n) blank s.found v.found_is h
+    absent h = not_found z g (name_of n) blank s.found v.found_is (λ q. omega arith)
 
     stood : (b : Entry) → s.found < 64 → (zone_of z).at (key (u n).name) ≡ some (host_of (get_or z.entries s.found b))
     unfolding update_of
@@ -85,12 +85,12 @@ module _ (s : Survey) (sent : Sent) where
   pub a_there : s.found < 64 → Adds asks_a s (Stays YxDomain)
   a_there h = record { adds = λ z n g m v e. stay z _ _ _ e YXDOMAIN (A-there (u n) (zone_of z) _ (stood n g v blank h)) refl refl }
 
-  pub a_full : ¬ (s.found < 64) → ¬ (s.free < 64) → Adds asks_a s (Stays NoRoom)
+  pub a_full : 64 ≤ s.found → 64 ≤ s.free → Adds asks_a s (Stays NoRoom)
   a_full h k = record {
-    adds = λ z n g m v e. stay z _ _ _ e no_room (A-full (u n) (zone_of z) (absent n g v h) (no_room_lem z g (name_of n) blank s.free v.free_is k)) refl refl;
+    adds = λ z n g m v e. stay z _ _ _ e no_room (A-full (u n) (zone_of z) (absent n g v h) (no_room_lem z g (name_of n) blank s.free v.free_is (λ q. omega arith))) refl refl;
   }
 
-  pub a_new : (r : Records) → ¬ (s.found < 64) → s.free < 64 → Fresh d family a r → Adds asks_a s (Writes r)
+  pub a_new : (r : Records) → 64 ≤ s.found → s.free < 64 → Fresh d family a r → Adds asks_a s (Writes r)
   a_new r h k f = record { adds = λ z n g m v. new z n g v (f.stands n m) }
     where
       new : (z : Zone) (n : Name) → formed z ≡ true → Found z (name_of n) s → Stands n 2 (new_host (u n)) r → Decided (name_of n) z (asks_a n (zone_of z)) 0 s.free (place_of n r)
@@ -171,7 +171,7 @@ module _ (s : Survey) (sent : Sent) where
       abbrev asks_b : Name → rules.Zone → Outcome
       asks_b n = request_b (policy_of p) (u n)
 
-      pub b_absent : ¬ (s.found < 64) → Decides asks_b s e (Stays NxDomain)
+      pub b_absent : 64 ≤ s.found → Decides asks_b s e (Stays NxDomain)
       b_absent h = only asks_b NxDomain (λ z n b t. B-absent (u n) (zone_of z) (policy_of p) (absent n t.form t.found h))
 
       module _ (h : s.found < 64) where
@@ -210,7 +210,7 @@ module _ (s : Survey) (sent : Sent) where
     abbrev asks_first : Name → rules.Zone → Outcome
     asks_first n = remove_address (u n)
 
-    pub remove_absent : ¬ (s.found < 64) → Decides asks_first s e (Stays NxRrset)
+    pub remove_absent : 64 ≤ s.found → Decides asks_first s e (Stays NxRrset)
     remove_absent h = only asks_first NxRrset (λ z n b t. remove_address_absent (u n) (zone_of z) (absent n t.form t.found h))
 
     module _ (h : s.found < 64) where
@@ -236,7 +236,7 @@ module _ (s : Survey) (sent : Sent) where
     abbrev asks_second : Name → rules.Zone → Outcome
     asks_second n = remove_name (u n)
 
-    pub name_absent : ¬ (s.found < 64) → Decides asks_second s e (Stays NxRrset)
+    pub name_absent : 64 ≤ s.found → Decides asks_second s e (Stays NxRrset)
     name_absent h = only asks_second NxRrset (λ z n b t. remove_name_absent (u n) (zone_of z) (absent n t.form t.found h))
 
     -- without an address, or not

@@ -3,7 +3,7 @@
 
 #![tactic(auto)]
 
-ghost use Rattle.std.specs.Prelude.{◌≡◌, cond};
+ghost use Rattle.std.specs.Prelude.{◌≡◌, cond, ◌&&◌};
 ghost use Rattle.request.specs.Answers.{refused};
 ghost use Rattle.zonefind.specs.Find.{find_answer};
 ghost use Rattle.zonefind.specs.Inner.{Located};
@@ -13,6 +13,7 @@ use dname::name::Name;
 use lentzone::{place, survey};
 use request::refusal::Refusal;
 use zone::entry::Entry;
+use zone::survey::Survey;
 
 // refusal: the number of document 01's table, 0 where there is none. entry: the place of the name,
 // octet for octet; zeros where the name is absent, and beside a refusal.
@@ -27,10 +28,10 @@ pub struct FindAnswer {
 const PLACES: usize = 64;
 
 // The refusals in their order: the zone's form, then the name.
-fn check(form: bool, full: bool) -> Result<(), Refusal>
-    ensures { refused result ≡ cond form (cond full 0 11) 17 }
+fn check(s: Survey, full: bool) -> Result<(), Refusal>
+    ensures { refused result ≡ cond (s.inorder && s.distinct) (cond full 0 11) 17 }
 {
-    if !form {
+    if !(s.inorder && s.distinct) {
         return Err(Refusal::Form);
     }
     if !full {
@@ -44,8 +45,7 @@ fn locate(octets: &[u8], name: &[u8]) -> Result<Option<usize>, Refusal>
     ensures { Located octets.now name.now result }
 {
     let s = survey::survey_in(octets, name);
-    let form = s.inorder && s.distinct;
-    check(form, name::is_full_name(name))?;
+    check(s, name::is_full_name(name))?;
     Ok((s.found < PLACES).then_some(s.found))
 }
 

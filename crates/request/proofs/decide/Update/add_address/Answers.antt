@@ -1,12 +1,11 @@
-use Rattle.std.proofs.Common.{arith, sym, ◌∙◌}
+use Rattle.std.proofs.Common.{sym, ◌∙◌}
 use Rattle.request.proofs.DecideLaws.{b_absent, b_other, b_added, b_full, b_done}
 use Rattle.request.proofs.decide.Update.add_address.Goals as goal
 
 pub returns-then-s-ge64 : goal.returns-then-s-ge64
 returns-then-s-ge64 c =
     let s = c.args in
-    let p = c.if-s-ge64.true in
-    b_absent s.s s.self.now s.e s.policy (λ h. omega arith)
+    b_absent s.s s.self.now s.e s.policy c.if-s-ge64.true
 
 pub returns-then-not-is_held : goal.returns-then-not-is_held
 returns-then-not-is_held c =

@@ -1,4 +1,3 @@
-use Rattle.std.proofs.Common.{arith}
 use Rattle.request.proofs.DecideLaws.{a_there, a_full, a_new}
 use Rattle.request.proofs.decide.Update.add_name.Goals as goal
 
@@ -7,11 +6,8 @@ returns-then-s-lt64 c = a_there c.args.s c.args.self.now c.if-s-lt64.true
 
 pub returns-then-s-ge64 : goal.returns-then-s-ge64
 returns-then-s-ge64 c =
-    let p = c.if-s-lt64.false in
-    let q = c.if-s-ge64.true in
-    a_full c.args.s c.args.self.now (λ h. omega arith) (λ h. omega arith)
+    a_full c.args.s c.args.self.now c.if-s-lt64.false c.if-s-ge64.true
 
 pub returns : goal.returns
 returns c =
-    let p = c.if-s-lt64.false in
-    a_new c.args.s c.args.self.now _ (λ h. omega arith) c.if-s-ge64.false c.fresh.ensures
+    a_new c.args.s c.args.self.now _ c.if-s-lt64.false c.if-s-ge64.false c.fresh.ensures

@@ -1,11 +1,10 @@
-use Rattle.std.proofs.Common.{arith, sym, ◌∙◌}
+use Rattle.std.proofs.Common.{sym, ◌∙◌}
 use Rattle.request.proofs.DecideLaws.{remove_absent, remove_other, remove_none, remove_own}
 use Rattle.request.proofs.decide.Update.remove_address.Goals as goal
 
 pub returns-then-s-ge64 : goal.returns-then-s-ge64
 returns-then-s-ge64 c =
-    let p = c.if-s-ge64.true in
-    remove_absent c.args.s c.args.self.now c.args.e (λ h. omega arith)
+    remove_absent c.args.s c.args.self.now c.args.e c.if-s-ge64.true
 
 pub returns-then-not-is_held : goal.returns-then-not-is_held
 returns-then-not-is_held c =

@@ -1,11 +1,10 @@
-use Rattle.std.proofs.Common.{arith, refl, sym, ◌∙◌}
+use Rattle.std.proofs.Common.{refl, sym, ◌∙◌}
 use Rattle.request.proofs.DecideLaws.{name_absent, name_other, name_kept, name_gone}
 use Rattle.request.proofs.decide.Update.remove_name.Goals as goal
 
 pub returns-then-s-ge64 : goal.returns-then-s-ge64
 returns-then-s-ge64 c =
-    let p = c.if-s-ge64.true in
-    name_absent c.args.s c.args.self.now c.args.e (λ h. omega arith)
+    name_absent c.args.s c.args.self.now c.args.e c.if-s-ge64.true
 
 pub returns-then-not-is_held : goal.returns-then-not-is_held
 returns-then-not-is_held c =
