@@ -90,8 +90,6 @@ impl Update {
         if !prerequisite::is_empty(e) {
             return Change::Stays(Answer::YxRrset);
         }
-        let mut gone = e;
-        gone.kind = 0;
-        Change::Writes(gone)
+        Change::Writes(Records { kind: 0, ..e })
     }
 }

@@ -63,12 +63,12 @@ fn records_of(e: Entry) -> Records
 }
 
 // What stands at a name as a place.
-fn place_of(name: Name, r: Records) -> Entry
-    ensures { result ≡ place_of name r }
+fn place_of(name: &Name, r: Records) -> Entry
+    ensures { result ≡ place_of name.now r }
 {
     Entry {
         kind: r.kind,
-        name,
+        name: *name,
         dhcid: r.dhcid,
         v4: r.v4,
         v6: r.v6,
@@ -76,71 +76,70 @@ fn place_of(name: Name, r: Records) -> Entry
 }
 
 // The zone with one place written, or as it is where there is no such place.
-fn written(zone: Zone, place: usize, entry: Entry) -> Zone
+fn written(mut zone: Zone, place: usize, entry: Entry) -> Zone
     ensures { result ≡ writtenAt zone place entry }
 {
-    let mut z = zone;
     if place < 64 {
-        z.entries[place] = entry;
+        zone.entries[place] = entry;
     }
-    z
+    zone
 }
 
 // The survey of a zone for a name, with what stands there, unless a request about it is refused.
-fn visit(zone: Zone, name: Name, family: u8, policy: u8) -> Result<Visit, Refusal>
-    ensures { Visits zone (name_of name) family policy result }
+fn visit(zone: &Zone, name: &Name, family: u8, policy: u8) -> Result<Visit, Refusal>
+    ensures { Visits zone.now (name_of name.now) family policy result }
 {
-    let v = survey::survey_of(zone, name);
-    refusal::check(v.survey, &name, family, policy)?;
+    let v = survey::survey_of(*zone, *name);
+    refusal::check(v.survey, name, family, policy)?;
     Ok(v)
 }
 
 // A request that is refused.
-fn refuse(zone: Zone, refusal: Refusal) -> Answered
-    ensures { result ≡ refused_zone zone refusal }
+fn refuse(zone: &Zone, refusal: Refusal) -> Answered
+    ensures { result ≡ refused_zone zone.now refusal }
 {
     Answered {
         refusal: u32::from(refusal),
         answer: 0,
-        zone,
+        zone: *zone,
     }
 }
 
 // The zone after a change at a place under a name, with the answer.
 #[tactic(auto, unfolding(crate::specs::Promise::number_of))]
-fn settle(zone: Zone, place: usize, name: Name, change: Change) -> Answered
-    ensures { result ≡ settled zone place name change }
+fn settle(zone: &Zone, place: usize, name: &Name, change: Change) -> Answered
+    ensures { result ≡ settled zone.now place name.now change }
 {
     match change {
         Change::Stays(answer) => Answered {
             refusal: 0,
             answer: u32::from(answer),
-            zone,
+            zone: *zone,
         },
         Change::Writes(r) => Answered {
             refusal: 0,
             answer: u32::from(Answer::Success),
-            zone: written(zone, place, place_of(name, r)),
+            zone: written(*zone, place, place_of(name, r)),
         },
     }
 }
 
 // A request other than A: the name stays that stands at the place found.
 fn send<F: FnOnce(Survey, Records) -> Change>(
-    zone: Zone,
-    name: Name,
+    zone: &Zone,
+    name: &Name,
     family: u8,
     policy: u8,
     decide: F,
 ) -> Answered
     requires { F.IsAlwaysCallable decide }
-    ensures { (rule : Name → RuledZone → Outcome) → Follows (F.post decide) rule → Settles (rule name) zone (name_of name) family policy result }
+    ensures { (rule : Name → RuledZone → Outcome) → Follows (F.post decide) rule → Settles (rule name.now) zone.now (name_of name.now) family policy result }
 {
     match visit(zone, name, family, policy) {
         Err(refusal) => refuse(zone, refusal),
         Ok(v) => {
             let change = decide(v.survey, records_of(v.entry));
-            settle(zone, v.survey.found, v.entry.name, change)
+            settle(zone, v.survey.found, &v.entry.name, change)
         }
     }
 }
@@ -150,7 +149,7 @@ fn send<F: FnOnce(Survey, Records) -> Change>(
 pub fn jespurla_zone_check(zone: Zone, name: Name, family: u8, policy: u8) -> CheckAnswer
     ensures { result.refusal ≡ refusal_of zone (name_of name) family policy }
 {
-    let refusal = match visit(zone, name, family, policy) {
+    let refusal = match visit(&zone, &name, family, policy) {
         Err(refusal) => u32::from(refusal),
         Ok(_) => 0,
     };
@@ -172,9 +171,9 @@ pub fn jespurla_request_a(
         family,
         address,
     };
-    match visit(zone, name, family, 0) {
-        Err(refusal) => refuse(zone, refusal),
-        Ok(v) => settle(zone, v.survey.free, name, update.add_name(v.survey)),
+    match visit(&zone, &name, family, 0) {
+        Err(refusal) => refuse(&zone, refusal),
+        Ok(v) => settle(&zone, v.survey.free, &name, update.add_name(v.survey)),
     }
 }
 
@@ -194,7 +193,7 @@ pub fn jespurla_request_b(
         family,
         address,
     };
-    send(zone, name, family, policy, |s, e| {
+    send(&zone, &name, family, policy, |s, e| {
         update.add_address(s, e, policy)
     })
 }
@@ -214,7 +213,7 @@ pub fn jespurla_request_remove_address(
         family,
         address,
     };
-    send(zone, name, family, 0, |s, e| update.remove_address(s, e))
+    send(&zone, &name, family, 0, |s, e| update.remove_address(s, e))
 }
 
 // The second remove request: deletes a name that the DHCID holds and that has no address.
@@ -232,5 +231,5 @@ pub fn jespurla_request_remove_name(
         family,
         address,
     };
-    send(zone, name, family, 0, |s, e| update.remove_name(s, e))
+    send(&zone, &name, family, 0, |s, e| update.remove_name(s, e))
 }
