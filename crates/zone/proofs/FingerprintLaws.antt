@@ -1,6 +1,7 @@
 -- The laws of fingerprints: equal names have equal ones. Assumes nothing.
-use Rattle.std.proofs.Common.{◌≡◌, ℕ, zero, suc, ◌+◌, ◌-◌, ◌/◌, ◌<◌, ◌≤◌, Bool, true, false, cond, not, ◌&&◌, ◌||◌, eqb, ltb, List, [], ◌∷◌, map, length, get_or, take, drop, set, sym, refl, ap, ◌∙◌, true≢false, add-one, arith, length-set, drop_of_length-le, length-take-le, drop-cons, get_or-set_other, get_or-set_same, ltb-false, le-ltb, lt-ltb, eqb-true}
-use mathlib.Core.Bool.{or-false}
+use Rattle.std.proofs.Common.{◌≡◌, ℕ, zero, suc, ◌+◌, ◌-◌, ◌/◌, ◌<◌, ◌≤◌, Bool, true, false, cond, not, ◌&&◌, ◌||◌, eqb, ltb, List, [], ◌∷◌, map, length, get_or, take, drop, set, sym, refl, ap, ◌∙◌, true≢false, add-one, arith, length-set, drop_of_length-le, length-take-le, drop-cons, get_or-set_other, get_or-set_same, ltb-true, ltb-false, le-ltb, lt-ltb, eqb-true}
+use mathlib.Core.Bool.{or-false, or-true}
+use Rattle.std.specs.List.{fold}
 use borrow.Author.Tests.{eqb-false}
 use borrow.Table.Steps.{cases}
 use Rattle.octets.specs.Compare.{same_octets}
@@ -69,14 +70,14 @@ pub fingerprint_long : (s : List ℕ) → 8 ≤ length s → fingerprint_words s
 unfolding fingerprint_words
 fingerprint_long s h = rw (le-ltb (length s) 8 h)
 
--- no more words than there are
-pub few_words_lem : (n : ℕ) → few_words n ≤ n
+-- of so many words, fifteen at most
+pub few_words_is : (n m : ℕ) → (n < 15 → m ≡ n) → (15 ≤ n → m ≡ 15) → m ≡ few_words n
 unfolding few_words
-few_words_lem n = go (ltb n 15) refl
+few_words_is n m f g = go (ltb n 15) refl
   where
-    go : (b : Bool) → ltb n 15 ≡ b → cond b n 15 ≤ n
-    go true e = omega arith
-    go false e = ltb-false n 15 e
+    go : (b : Bool) → ltb n 15 ≡ b → m ≡ cond b n 15
+    go true e = f (ltb-true n 15 e)
+    go false e = g (ltb-false n 15 e)
 
 pub fingerprint_step : (n left i p q : ℕ) (s : List ℕ) → n ≡ suc left → fingerprint_from n i p q s ≡ fingerprint_from left (i + 8) (more s i p) (wrapped (q + more s i p)) s
 unfolding fingerprint_from
@@ -106,27 +107,46 @@ pub repeated_end : (p : List ℕ) (i : ℕ) → length p ≤ i → repeated (dro
 unfolding repeated
 repeated_end p i h = rw (drop_of_length-le p h)
 
--- what a flag that is raised, or left, comes to
-pub raised : (h t r u : Bool) → r ≡ (h || t) → t ≡ (true || u) → r ≡ true
-raised true t r u e f = e
-raised false t r u e f = e ∙ f
+pub among_fold : (x : ℕ) (b : Bool) (p : List ℕ) → fold (λ hit y. hit || eqb y x) b p ≡ (b || among x p)
+unfolding among
+among_fold x b [] = sym (or-false b)
+among_fold x b (y ∷ p) = among_fold x (b || eqb y x) p ∙ or_assoc b (eqb y x) (among x p)
+  where
+    or_assoc : (a c d : Bool) → ((a || c) || d) ≡ (a || (c || d))
+    or_assoc true c d = refl
+    or_assoc false c d = refl
 
-pub left_alone : (h t r u : Bool) → r ≡ (h || t) → t ≡ (false || u) → r ≡ (h || u)
-left_alone h t r u e f = e ∙ ap (λ (v : Bool). h || v) f
+-- each compared with those behind it
+module _ (p rest : List ℕ) (so_far : repeated p ≡ repeated rest) where
+  module _ (x : ℕ) (behind : List ℕ) (is : rest ≡ x ∷ behind) (hit : Bool) (h : hit ≡ among x behind) where
+    pub repeat_found : hit ≡ true → true ≡ repeated p
+    unfolding repeated
+    repeat_found t = sym (so_far ∙ ap repeated is ∙ rw (sym h ∙ t))
 
-pub flag_end : (h t r : Bool) → r ≡ (h || t) → t ≡ false → r ≡ h
-flag_end h t r e f = e ∙ ap (λ (v : Bool). h || v) f ∙ or-false h
+    pub repeat_not : hit ≡ false → repeated p ≡ repeated behind
+    unfolding repeated
+    repeat_not t = so_far ∙ ap repeated is ∙ rw (sym h ∙ t)
+
+  pub repeat_end : length rest ≡ 0 → false ≡ repeated p
+  repeat_end e = sym (so_far ∙ repeated_end rest 0 (omega arith))
+
+-- those from a place on repeat: all do
+pub repeated_later : (p : List ℕ) (i : ℕ) → repeated (drop i p) ≡ true → repeated p ≡ true
+unfolding repeated
+repeated_later p zero h = h
+repeated_later [] (suc i) h = h
+repeated_later (x ∷ p) (suc i) h = rw (repeated_later p i h) (or-true (among x p))
 
 -- the fingerprints from a place on have their marks
-pub record Marked (p seen : List ℕ) (i : ℕ) : Type 0 where
+pub record Marked (p : List ℕ) (seen : List Bool) (i : ℕ) : Type 0 where
   pub room : length seen ≡ 1024
-  pub marks : (x : ℕ) → among x (drop i p) ≡ true → get_or seen (mark_of x) 0 ≡ 0 → ⊥
+  pub marks : (x : ℕ) → among x (drop i p) ≡ true → get_or seen (mark_of x) false ≡ false → ⊥
 
-pub marked_none : (p seen : List ℕ) → length seen ≡ 1024 → Marked p seen (length p)
+pub marked_none : (p : List ℕ) (seen : List Bool) → length seen ≡ 1024 → Marked p seen (length p)
 marked_none p seen l = record { room = l; marks = λ x t e. true≢false (sym t ∙ among_end x p (length p) (omega arith)) }
 
 -- one step back, to the fingerprint `it` with its mark
-module _ (p seen : List ℕ) (i : ℕ) (some : 0 < i) (below : i ≤ length p) (m : Marked p seen i) (at : ℕ) (mark : at ≡ mark_of (get_or p (i - 1) 0)) where
+module _ (p : List ℕ) (seen : List Bool) (i : ℕ) (some : 0 < i) (below : i ≤ length p) (m : Marked p seen i) (at : ℕ) (mark : at ≡ mark_of (get_or p (i - 1) 0)) where
   abbrev it : ℕ
   it = get_or p (i - 1) 0
 
@@ -140,52 +160,51 @@ module _ (p seen : List ℕ) (i : ℕ) (some : 0 < i) (below : i ≤ length p) (
       let e : i - 1 + 1 ≡ i = omega arith in
       repeated_step p (i - 1) (omega arith) ∙ ap (λ (k : ℕ). among it (drop k p) || repeated (drop k p)) e
 
-  marked_new : get_or seen at 0 ≡ 0 → among it (drop i p) ≡ false
-  marked_new e = cases (among it (drop i p)) (λ t. absurd (m.marks it t (ap (λ (k : ℕ). get_or seen k 0) (sym mark) ∙ e))) (λ f. f)
+  marked_new : get_or seen at false ≡ false → among it (drop i p) ≡ false
+  marked_new e = cases (among it (drop i p)) (λ t. absurd (m.marks it t (ap (λ (k : ℕ). get_or seen k false) (sym mark) ∙ e))) (λ f. f)
 
   -- the mark of an equal one
   same_mark : (x : ℕ) → eqb it x ≡ true → at ≡ mark_of x
   same_mark x q = mark ∙ ap mark_of (eqb-true it x q)
 
   -- its mark is put, or was there
-  pub marked_put : Marked p (set seen at 1) (i - 1)
+  pub marked_put : Marked p (set seen at true) (i - 1)
   marked_put = record {
-    room = length-set seen at 1 ∙ m.room;
+    room = length-set seen at true ∙ m.room;
     marks = λ x t e. go x (eqb it x) refl (sym (back x) ∙ t) e;
   }
     where
       low : at < length seen
       low = let r = m.room in let h = mark_low it in omega (arith, mark)
 
-      put : (x : ℕ) → at ≡ mark_of x → get_or (set seen at 1) (mark_of x) 0 ≡ 0 → ⊥
+      put : (x : ℕ) → at ≡ mark_of x → get_or (set seen at true) (mark_of x) false ≡ false → ⊥
       put x q e =
-          let s : ◌≡◌ {A = ℕ} 1 0 = sym (get_or-set_same seen at 1 0 low) ∙ ap (λ (k : ℕ). get_or (set seen at 1) k 0) q ∙ e in
-          omega arith
+          true≢false (sym (get_or-set_same seen at true false low) ∙ ap (λ (k : ℕ). get_or (set seen at true) k false) q ∙ e)
 
-      other : (x : ℕ) → among x (drop i p) ≡ true → get_or (set seen at 1) (mark_of x) 0 ≡ 0 → (b : Bool) → eqb (mark_of x) at ≡ b → ⊥
+      other : (x : ℕ) → among x (drop i p) ≡ true → get_or (set seen at true) (mark_of x) false ≡ false → (b : Bool) → eqb (mark_of x) at ≡ b → ⊥
       other x t e true q = put x (sym (eqb-true (mark_of x) at q)) e
-      other x t e false q = m.marks x t (sym (get_or-set_other seen at (mark_of x) 1 0 (eqb-false (mark_of x) at q)) ∙ e)
+      other x t e false q = m.marks x t (sym (get_or-set_other seen at (mark_of x) true false (eqb-false (mark_of x) at q)) ∙ e)
 
-      go : (x : ℕ) (b : Bool) → eqb it x ≡ b → (eqb it x || among x (drop i p)) ≡ true → get_or (set seen at 1) (mark_of x) 0 ≡ 0 → ⊥
+      go : (x : ℕ) (b : Bool) → eqb it x ≡ b → (eqb it x || among x (drop i p)) ≡ true → get_or (set seen at true) (mark_of x) false ≡ false → ⊥
       go x true q t e = put x (same_mark x q) e
       go x false q t e = other x (rw q at t) e (eqb (mark_of x) at) refl
 
-  pub marked_keep : (get_or seen at 0 ≡ 0 → ⊥) → Marked p seen (i - 1)
+  pub marked_keep : (get_or seen at false ≡ false → ⊥) → Marked p seen (i - 1)
   marked_keep n = record { room = m.room; marks = λ x t e. go x (eqb it x) refl (sym (back x) ∙ t) e }
     where
-      go : (x : ℕ) (b : Bool) → eqb it x ≡ b → (eqb it x || among x (drop i p)) ≡ true → get_or seen (mark_of x) 0 ≡ 0 → ⊥
-      go x true q t e = n (ap (λ (k : ℕ). get_or seen k 0) (same_mark x q) ∙ e)
+      go : (x : ℕ) (b : Bool) → eqb it x ≡ b → (eqb it x || among x (drop i p)) ≡ true → get_or seen (mark_of x) false ≡ false → ⊥
+      go x true q t e = n (ap (λ (k : ℕ). get_or seen k false) (same_mark x q) ∙ e)
       go x false q t e = m.marks x (rw q at t) e
 
-  -- the flag
-  pub hit_new : (hit : Bool) → get_or seen at 0 ≡ 0 → hit ≡ repeated (drop i p) → hit ≡ repeated (drop (i - 1) p)
-  hit_new hit e h = h ∙ sym (repeated_back ∙ rw (marked_new e))
+  -- still none repeats, or some do
+  pub back_new : get_or seen at false ≡ false → repeated (drop i p) ≡ false → repeated (drop (i - 1) p) ≡ false
+  back_new e h = repeated_back ∙ rw (marked_new e, h)
 
-  pub hit_again : among it (drop i p) ≡ true → true ≡ repeated (drop (i - 1) p)
-  hit_again t = sym (repeated_back ∙ rw t)
+  pub back_not : among it (drop i p) ≡ false → repeated (drop i p) ≡ false → repeated (drop (i - 1) p) ≡ false
+  back_not f h = repeated_back ∙ rw (f, h)
 
-  pub hit_not : (hit : Bool) → among it (drop i p) ≡ false → hit ≡ repeated (drop i p) → hit ≡ repeated (drop (i - 1) p)
-  hit_not hit f h = h ∙ sym (repeated_back ∙ rw f)
+  pub back_again : among it (drop i p) ≡ true → true ≡ repeated p
+  back_again t = sym (repeated_later p (i - 1) (repeated_back ∙ rw t))
 
 -- ---- no two fingerprints equal: no two strings equal
 

@@ -1,8 +1,7 @@
 // Fingerprints of names: where two differ, the names do. Numbers are quicker to compare than names.
-ghost use Rattle.std.specs.Prelude.{◌≡◌, ◌+◌, ◌<◌, ◌≤◌, length, drop};
+ghost use Rattle.std.specs.Prelude.{◌≡◌, ◌+◌, ◌<◌, ◌≤◌, length};
 ghost use Rattle.zone.specs.Survey.{folded, word_at, ends_of, fingerprint_words, among, mark_of, repeated};
 
-use crate::survey;
 use octets::word;
 
 // The eight octets from a place on, without the bits that tell capital letters.
@@ -27,12 +26,6 @@ fn fold(x: u64) -> u32
     ensures { result ≡ folded x }
 {
     ((x % 4294967296 + x / 4294967296 * 40503) % 4294967296) as u32
-}
-
-fn wide(x: u32) -> u64
-    ensures { (result ≡ x) × (result < 4294967296) }
-{
-    x as u64
 }
 
 // The first four octets and the last four.
@@ -78,61 +71,42 @@ pub fn fingerprint(s: &[u8]) -> u32
     }
     let mut sum: u64 = 0;
     let mut sums: u64 = 0;
-    let mut i: usize = 0;
-    let words = (s.len() - 1) / 8;
-    let mut left = survey::choose(words < MOST_WORDS, words, MOST_WORDS);
-    while left > 0 {
-        let w = word(s, i);
-        sum = std::num::wrapping_add_u64(sum, w);
-        sums = std::num::wrapping_add_u64(sums, sum);
-        i += 8;
-        left -= 1;
+    let words = ((s.len() - 1) / 8).min(MOST_WORDS);
+    for i in 0..words {
+        let w = word(s, 8 * i);
+        sum = sum.wrapping_add(w);
+        sums = sums.wrapping_add(sum);
     }
     let last = word(s, s.len() - 8);
-    sum = std::num::wrapping_add_u64(sum, last);
-    sums = std::num::wrapping_add_u64(sums, sum);
-    fold(sums)
+    fold(sums.wrapping_add(sum.wrapping_add(last)))
 }
 
-// Whether a fingerprint stands at a place or behind it. The loop has no early way out, so that it
-// compiles to vector code.
-fn has_from(p: &[u32], x: u32, from: usize) -> bool
-    requires { from ≤ length p.now }
-    ensures { result ≡ among x (drop from p.now) }
+// Whether a fingerprint is one of these. There is no early way out, so that it compiles to vector code.
+fn is_among(p: &[u32], x: u32) -> bool
+    ensures { result ≡ among x p.now }
 {
-    let mut hit = false;
-    let mut j = from;
-    while j < p.len() {
-        let y = p[j];
-        j += 1;
-        if y == x {
-            hit = true;
-        }
-    }
-    hit
+    p.iter().fold(false, |hit, y| hit | (*y == x))
 }
 
 // The mark of a fingerprint.
 fn mark(x: u32) -> usize
     ensures { (result ≡ mark_of x) × (result < 1024) }
 {
-    (wide(x) * 2654435769 / 4194304 % 1024) as usize
+    (u64::from(x) * 2654435769 / 4194304 % 1024) as usize
 }
 
 // Whether two fingerprints are equal, each compared with those behind it.
 fn few_repeat(p: &[u32]) -> bool
     ensures { result ≡ repeated p.now }
 {
-    let mut hit = false;
-    let mut i: usize = 0;
-    while i < p.len() {
-        let x = p[i];
-        i += 1;
-        if has_from(p, x, i) {
-            hit = true;
+    let mut rest = p;
+    while let Some((x, behind)) = rest.split_first() {
+        if is_among(behind, *x) {
+            return true;
         }
+        rest = behind;
     }
-    hit
+    false
 }
 
 // The same by marks, for which many are worth it. Equal fingerprints have one mark: only where it is
@@ -140,22 +114,19 @@ fn few_repeat(p: &[u32]) -> bool
 fn many_repeat(p: &[u32]) -> bool
     ensures { result ≡ repeated p.now }
 {
-    let mut seen = [0u8; 1024];
-    let mut hit = false;
-    let mut i = p.len();
-    while 0 < i {
-        i -= 1;
+    let mut seen = [false; 1024];
+    for i in (0..p.len()).rev() {
         let x = p[i];
         let m = mark(x);
-        if seen[m] == 0 {
-            seen[m] = 1;
-        } else {
-            if has_from(p, x, i + 1) {
-                hit = true;
-            }
+        if !seen[m] {
+            seen[m] = true;
+            continue;
+        }
+        if is_among(&p[i + 1..], x) {
+            return true;
         }
     }
-    hit
+    false
 }
 
 // Whether two fingerprints are equal.
@@ -163,7 +134,8 @@ pub fn repeats(p: &[u32]) -> bool
     ensures { result ≡ repeated p.now }
 {
     if p.len() < 8 {
-        return few_repeat(p);
+        few_repeat(p)
+    } else {
+        many_repeat(p)
     }
-    many_repeat(p)
 }

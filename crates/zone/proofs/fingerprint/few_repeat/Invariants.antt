@@ -1,9 +1,9 @@
-use Rattle.std.proofs.Common.{◌≡◌, ◌-◌, ◌≤◌, ◌||◌, length, drop}
+use Rattle.std.proofs.Common.{◌≡◌, length}
 use Rattle.zone.specs.Survey.{repeated}
 use Rattle.zone.proofs.fingerprint.few_repeat.Given as goal
 
-abbrev pub invariant-loop-i : goal.invariant-loop-i
-invariant-loop-i l = (l.i ≤ length l.p) × (repeated l.p ≡ (l.hit || repeated (drop l.i l.p)))
+abbrev pub invariant-loop-x : goal.invariant-loop-x
+invariant-loop-x l = repeated l.p ≡ repeated l.rest
 
-abbrev pub decreases-loop-i : goal.decreases-loop-i
-decreases-loop-i l = length l.p - l.i
+abbrev pub decreases-loop-x : goal.decreases-loop-x
+decreases-loop-x l = length l.rest
