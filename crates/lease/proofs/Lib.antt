@@ -4,3 +4,4 @@ pub mod LeadingLaws
 pub mod KeyLaws
 pub mod ListLaws
 pub mod OrderLaws
+pub mod ZeroLaws

@@ -1,9 +1,10 @@
 // The form that a lease must have in the table, but for the order of the addresses.
-ghost use Rattle.std.specs.Prelude.{◌≡◌};
+ghost use Rattle.std.specs.Prelude.{◌≡◌, drop};
 ghost use Rattle.lease.specs.Lease.{all_zero, hardware_fits, lengths_fit, moments_fit, well_formed};
 
 use crate::Lease;
 use clock::Moment;
+use octets::word;
 
 // Whether all octets are zero. Each is looked at, with no early way out, so that it compiles to vector
 // code.
@@ -13,15 +14,23 @@ fn is_zero(s: &[u8]) -> bool
     s.iter().fold(true, |zero, x| zero & (*x == 0))
 }
 
-// A hardware address has at most 16 octets, with zeros behind them; one of none has type 0. Six is the
-// usual length, for which the octets behind it are compared in two steps.
+// Whether all octets behind the first six are zero. Six is the usual length, and as numbers the
+// octets are compared in two steps.
+fn is_zero_from_6(s: &[u8; 16]) -> bool
+    ensures { result ≡ all_zero (drop 6 s.now) }
+{
+    word::eight(s[8], s[9], s[10], s[11], s[12], s[13], s[14], s[15]) == 0
+        && word::four(s[6], s[7], 0, 0) == 0
+}
+
+// A hardware address has at most 16 octets, with zeros behind them; one of none has type 0.
 #[tactic(auto, unfolding(crate::specs::Lease::hardware_fits))]
 fn does_hardware_fit(htype: u8, hlen: u8, chaddr: &[u8; 16]) -> bool
     ensures { result ≡ hardware_fits htype hlen chaddr.now }
 {
     match hlen {
         0 => htype == 0 && is_zero(chaddr),
-        6 => is_zero(&chaddr[6..]),
+        6 => is_zero_from_6(chaddr),
         1..=16 => is_zero(&chaddr[hlen as usize..]),
         _ => false,
     }

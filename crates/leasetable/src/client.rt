@@ -19,7 +19,7 @@ pub struct Key {
 
 impl Key {
     // Whether a lease has the client's key.
-    #[inline]
+    #[inline(always)]
     #[tactic(auto, unfolding(crate::specs::Folds::client_has))]
     fn is_of(&self, x: &Lease) -> bool
         ensures { result ≡ client_has self.now x.now }
@@ -31,8 +31,9 @@ impl Key {
         }
     }
 
-    // Whether a record is an active lease of the client. Few have the key, so that is asked first.
-    #[inline]
+    // Whether a record is an active lease of the client. Few have the key, so that is asked first. Two
+    // scans ask, and a call for every record would cost more than the test.
+    #[inline(always)]
     pub(crate) fn wants(&self, clock: Moment, x: &Lease) -> bool
         ensures { result ≡ wanted clock self.now x.now }
     {
