@@ -1,12 +1,13 @@
 -- The laws of comparing strings of octets. Assumes nothing.
-use mathlib.Core.Path.{◌≡◌, refl, ap}
+use mathlib.Core.Path.{◌≡◌, refl, ap, ◌∙◌}
 use mathlib.Core.Bool.{Bool, true, false, ◌&&◌, and-false}
 use mathlib.Core.List.{List, [], ◌∷◌}
+use native.Mathlib.Omega.{arith}
 use Prim.Native.Nat.{ℕ, suc}
 use lib.Dec.{eqb}
 use lib.ListN.{length}
 use borrow.Author.Tests.{eq-eqb, eqb-true}
-use Rattle.std.specs.Cmp.Lexicographic.{pointwise}
+use Rattle.std.specs.List.{fold, zip}
 use Rattle.octets.specs.Compare.{same_octets}
 
 pub same_self : (a : List ℕ) → same_octets a a ≡ true
@@ -25,13 +26,20 @@ same_true (x ∷ xs) (y ∷ ys) e = go (eqb x y) refl e (same_true xs ys)
     go true q r ih = let h : x ≡ y = eqb-true x y q in let t : xs ≡ ys = ih r in cc
     go false q r ih = cc
 
--- the library's comparison of slices
-pub same_slices : (a b : List ℕ) → pointwise eqb a b ≡ same_octets a b
+-- what is told of a string so far stays in front
+fold_pairs : (a b : List ℕ) (t : Bool) → fold (λ same p. same && eqb p.0 p.1) t (zip a b) ≡ (t && fold (λ same p. same && eqb p.0 p.1) true (zip a b))
+fold_pairs a b true = refl
+fold_pairs [] b false = refl
+fold_pairs (x ∷ a) [] false = refl
+fold_pairs (x ∷ a) (y ∷ b) false = fold_pairs a b false
+
+-- strings of one length hold the same octets where each two are equal
+pub same_pairs : (a b : List ℕ) → length a ≡ length b → fold (λ same p. same && eqb p.0 p.1) true (zip a b) ≡ same_octets a b
 unfolding same_octets
-same_slices [] [] = refl
-same_slices [] (y ∷ ys) = refl
-same_slices (x ∷ xs) [] = refl
-same_slices (x ∷ xs) (y ∷ ys) = ap (λ (t : Bool). eqb x y && t) (same_slices xs ys)
+same_pairs [] [] h = refl
+same_pairs [] (y ∷ b) h = absurd (omega arith)
+same_pairs (x ∷ a) [] h = absurd (omega arith)
+same_pairs (x ∷ a) (y ∷ b) h = fold_pairs a b (eqb x y) ∙ ap (λ (t : Bool). eqb x y && t) (same_pairs a b (omega arith))
 
 -- strings of different lengths are not the same
 pub same_lengths : (a b : List ℕ) → (length a ≡ length b → ⊥) → same_octets a b ≡ false
