@@ -24,7 +24,7 @@ const N: u8 = 4;
 fn bit(set: bool, weight: u8) -> u32
     ensures { result ≡ cond set weight 0 }
 {
-    if set { weight as u32 } else { 0 }
+    if set { u32::from(weight) } else { 0 }
 }
 
 // The flags octet of the server's answer to a client's flags octet, or refusal 10. A number other
