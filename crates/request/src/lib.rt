@@ -89,7 +89,7 @@ fn written(mut zone: Zone, place: usize, entry: Entry) -> Zone
 fn visit(zone: &Zone, name: &Name, family: u8, policy: u8) -> Result<Visit, Refusal>
     ensures { Visits zone.now (name_of name.now) family policy result }
 {
-    let v = survey::survey_of(*zone, *name);
+    let v = survey::survey_of(zone, name);
     refusal::check(v.survey, name, family, policy)?;
     Ok(v)
 }

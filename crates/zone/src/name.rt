@@ -10,7 +10,7 @@ use dname::name::Name;
 pub(crate) fn octets(n: &Name) -> &[u8]
     ensures { result.now ≡ name_of n.now }
 {
-    &n.octets[..n.len as usize]
+    &n.octets[..usize::from(n.len)]
 }
 
 // The fingerprint of a name.

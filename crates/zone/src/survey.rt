@@ -61,11 +61,11 @@ fn distinct_names(places: &[Entry]) -> bool
 
 // The one walk over all places. It tells names apart by their fingerprints: where two of those are
 // equal, the names are compared.
-pub fn survey_of(z: Zone, n: Name) -> Visit
-    ensures { Visited z (name_of n) result }
+pub fn survey_of(z: &Zone, n: &Name) -> Visit
+    ensures { Visited z.now (name_of n.now) result }
 {
     let places = &z.entries;
-    let fingerprint = name::fingerprint_of(&n);
+    let fingerprint = name::fingerprint_of(n);
     let mut fingerprints = [0u32; 64];
     let mut used: usize = 0;
     let mut inorder = true;
@@ -83,7 +83,7 @@ pub fn survey_of(z: Zone, n: Name) -> Visit
         let sets = entry::are_sets_sound(&e.v4, &e.v6);
         let fine = entry::is_in_order(e.kind, full, sets);
         inorder = both(inorder, fine);
-        let named = name::is_same(own, &e.name, fingerprint, &n);
+        let named = name::is_same(own, &e.name, fingerprint, n);
         found = choose(named, i, found);
     }
     let repeats = fingerprint::repeats(&fingerprints[..used]);
