@@ -3,9 +3,11 @@ use mathlib.Core.Path.{◌≡◌, refl, ap, ◌∙◌}
 use mathlib.Core.Bool.{Bool, true, false, ◌&&◌, and-false}
 use mathlib.Core.List.{List, [], ◌∷◌}
 use native.Mathlib.Omega.{arith}
-use Prim.Native.Nat.{ℕ, suc}
+use Prim.Native.Nat.{ℕ, suc, ◌+◌, ◌<◌}
+use native.Mathlib.Numerals.{add-one}
 use lib.Dec.{eqb}
-use lib.ListN.{length}
+use lib.ListN.{length, get_or, drop}
+use lib.Seq.{drop-cons}
 use borrow.Author.Tests.{eq-eqb, eqb-true}
 use Rattle.std.specs.List.{fold, zip}
 use Rattle.octets.specs.Compare.{same_octets}
@@ -56,3 +58,8 @@ same_differ f a b h = go (same_octets a b) refl
     go : (t : Bool) → same_octets a b ≡ t → t ≡ false
     go true e = absurd (h (ap f (same_true a b e)))
     go false e = refl
+
+-- a place where both go on: the octets there are equal, and the rest of the two strings is the same
+pub same_step : (a b : List ℕ) (i : ℕ) → i < length a → i < length b → same_octets (drop i a) (drop i b) ≡ (eqb (get_or a i 0) (get_or b i 0) && same_octets (drop (i + 1) a) (drop (i + 1) b))
+unfolding same_octets
+same_step a b i h k = rw (add-one, drop-cons a i 0 h, drop-cons b i 0 k)
