@@ -31,6 +31,12 @@ pub begun : (n : ℕ) (s : List ℕ) → n < 63 → labels_of 0 (suc n ∷ s) �
 unfolding labels_of
 begun n s h = rw (labels_of, lt-ltb n 63 h)
 
+-- no octets where a label or the end is due: the name is partial
+pub at_end : (s : List ℕ) → length s ≡ 0 → labels_of 0 s ≡ Partial
+unfolding labels_of
+at_end [] h = refl
+at_end (x ∷ s) h = absurd (omega arith)
+
 -- a length that no label has
 pub too_long : (s : List ℕ) → 0 < length s → 63 < get_or s 0 0 → labels_of 0 s ≡ Malformed
 unfolding labels_of
