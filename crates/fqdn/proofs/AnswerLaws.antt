@@ -49,6 +49,16 @@ pub sends_none : (decision : FlagAnswer) → ¬ (decision.refusal ≡ 0) → sen
 unfolding sent_flags
 sends_none decision h = rw (sent_flags, ne_eqb _ _ h)
 
+-- the two ways through the flag decision: it is refused, or its flags go on to the suffix
+module _ (decision : FlagAnswer) (name suffix : List ℕ) where
+  pub flags_refused : ¬ (decision.refusal ≡ 0) → by_flags decision name suffix ≡ Err BadFlags
+  unfolding by_flags
+  flags_refused h = rw (by_flags, ne_eqb _ _ h)
+
+  pub flags_sent : decision.refusal ≡ 0 → by_flags decision name suffix ≡ by_suffix (shape_of suffix) decision.flags name suffix
+  unfolding by_flags
+  flags_sent h = rw (by_flags, eq-eqb _ _ h)
+
 -- by what the flags come to
 pub by_sent : (decision : FlagAnswer) (name suffix : List ℕ) (flags : ℕ) → Ok flags ≡ sent_flags decision → by_flags decision name suffix ≡ by_suffix (shape_of suffix) flags name suffix
 unfolding sent_flags by_flags
