@@ -9,3 +9,4 @@ pub mod ChainLaws
 pub mod InsertLaws
 pub mod MomentLaws
 pub mod LibraryLaws
+pub mod ComparedLaws
