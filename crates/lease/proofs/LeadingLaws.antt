@@ -8,6 +8,12 @@ use native.Mathlib.Omega.{arith}
 use lib.Dec.{eqb, ltb}
 use lib.ListN.{length, get_or, take, drop}
 use lib.Seq.{take-take}
+use mir.Val.{Val}
+use mir.Syntax.{w8}
+use denote.Laws.{Is}
+use denote.Array.{Array}
+use denote.Plain.{UInt}
+use borrow.Author.Rules.{elem_Fits}
 use borrow.Table.Steps.{cases}
 use borrow.Author.Tests.{eqb-true, ltb-true, ltb-false}
 use Rattle.octets.specs.Compare.{same_octets}
@@ -64,9 +70,25 @@ lead_same n a b e =
 pub lead_apart : (n : ℕ) (a b : List ℕ) → (leading n (value (take 8 a)) ≡ leading n (value (take 8 b)) → ⊥) → same_octets (take n a) (take n b) ≡ false
 lead_apart n a b h = cases (same_octets (take n a) (take n b)) (λ e. absurd (h (lead_same n a b (same_true (take n a) (take n b) e)))) (λ e. e)
 
+-- the first eight octets of a string of at least as many
+pub first_eight : (s : List ℕ) → 8 ≤ length s → take 8 s ≡ get_or s 0 0 ∷ get_or s 1 0 ∷ get_or s 2 0 ∷ get_or s 3 0 ∷ get_or s 4 0 ∷ get_or s 5 0 ∷ get_or s 6 0 ∷ get_or s 7 0 ∷ []
+first_eight [] l = absurd (omega (arith, l))
+first_eight (a ∷ []) l = absurd (omega (arith, l))
+first_eight (a ∷ b ∷ []) l = absurd (omega (arith, l))
+first_eight (a ∷ b ∷ c ∷ []) l = absurd (omega (arith, l))
+first_eight (a ∷ b ∷ c ∷ d ∷ []) l = absurd (omega (arith, l))
+first_eight (a ∷ b ∷ c ∷ d ∷ e ∷ []) l = absurd (omega (arith, l))
+first_eight (a ∷ b ∷ c ∷ d ∷ e ∷ f ∷ []) l = absurd (omega (arith, l))
+first_eight (a ∷ b ∷ c ∷ d ∷ e ∷ f ∷ g ∷ []) l = absurd (omega (arith, l))
+first_eight (a ∷ b ∷ c ∷ d ∷ e ∷ f ∷ g ∷ h ∷ s) l = refl
+
 -- ---- the number says all of at most eight octets
 abbrev pub Octets : List ℕ → Type 0
 Octets l = (i : ℕ) → get_or l i 0 < 256
+
+-- an array that a function is given holds octets
+pub array_octets : (n : ℕ) (l : List ℕ) {vs : List Val} → Is (Array (UInt w8) n) l vs → Octets l
+array_octets n l p i = (elem_Fits w8 w8 l p.0 i p.1.1 tt).fits
 
 value_below : (n : ℕ) (l : List ℕ) → Octets l → value (take n l) < 256 ^ n
 unfolding value
