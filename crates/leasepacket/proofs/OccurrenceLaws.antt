@@ -190,3 +190,7 @@ pub told_none : {A : Type 0} (tell : List (List ℕ) → A) (vs : List (List ℕ
 told_none tell [] e same = refl
 told_none tell (v ∷ []) e same = absurd (some-ne-none v e)
 told_none tell (v ∷ w ∷ us) e same = same v w us
+
+-- an option that is not there has no values
+pub none_absent : (p : List ℕ) (code : ℕ) → Ok None ≡ occurrence code p → values_in code p ≡ []
+none_absent p code e = values_at p code None e

@@ -21,7 +21,7 @@ use Rattle.leasepacket.specs.Occurrence.{before, place_of}
 use Rattle.leasepacket.specs.Reading.{id_place, read_at, reading, asked, refusal_of, number_of}
 use Rattle.leasepacket.specs.Places.{ReadAs, Past, Passed, key_count}
 use Rattle.leasepacket.proofs.OccurrenceLaws.{value_at}
-use Rattle.leasepacket.proofs.QueryLaws.{reads, applies, passes, none_left, begins, type_long, type_is, key_is, length_is, not_one, one, part_length}
+use Rattle.leasepacket.proofs.QueryLaws.{reads, applies, passes, none_left, begins, type_long, type_is, keys_zero, keys_some, key_is, length_is, not_one, one, part_length}
 
 -- ---- the packet, its op, its options
 module _ (p : List ℕ) where
@@ -71,6 +71,16 @@ module _ (p : List ℕ) where
     unfolding refusals
     past_5 e = passes p 5 _ _ s (ne_eqb (giaddr p) 0 e)
 
+-- past the fourth and the fifth refusal, with the place of the client id carried along
+module _ (p : List ℕ) (id : Option Place) where
+  pub passed_4 : Passed 3 p id → is_lease_query (values_in 53 p) ≡ true → Passed 4 p id
+  unfolding refusals
+  passed_4 s e = record { long = s.long; past = passes p 4 _ _ s.past (ap not e); ids = s.ids; stands = s.stands }
+
+  pub passed_5 : Passed 4 p id → (giaddr p ≡ 0 → ⊥) → Passed 5 p id
+  unfolding refusals
+  passed_5 s e = record { long = s.long; past = passes p 5 _ _ s.past (ne_eqb (giaddr p) 0 e); ids = s.ids; stands = s.stands }
+
 -- a message type of one octet, or another
 pub type_absent : (p : List ℕ) → ReadAs 53 p None → is_lease_query (values_in 53 p) ≡ false
 type_absent p r = ap is_lease_query r.are
@@ -114,6 +124,16 @@ module _ (p : List ℕ) (id : Option Place) (s : Passed 5 p id) where
       go : (i : Option Place) → Passed 6 p i → key_count (ciaddr p) (has_hardware_key p) i ≡ 1 → Passed 6 p None
       go None t k = t
       go (Some q) t k = let l : cond (eqb (ciaddr p) 0) 0 1 + 1 + 1 ≡ 1 = rw h at k in absurd (omega (arith, l))
+
+-- a client id beside another key is refused
+module _ (p : List ℕ) (at n : ℕ) (s : Passed 5 p (Some (record { at = at; len = n }))) where
+  pub address_and_id : (ciaddr p ≡ 0 → ⊥) → Err NotOneKey ≡ reading p
+  unfolding refusals
+  address_and_id a = applies p 6 _ _ s.past (not_one (keys p) _ (keys_some p (has_hardware_key p) (part p at n ∷ []) refl s.ids.are a) (λ z. omega (arith, z)))
+
+  pub hardware_and_id : ciaddr p ≡ 0 → has_hardware_key p ≡ true → Err NotOneKey ≡ reading p
+  unfolding refusals
+  hardware_and_id a h = applies p 6 _ _ s.past (not_one (keys p) _ (keys_zero p true (part p at n ∷ []) h s.ids.are a) (λ z. omega (arith, z)))
 
 -- ---- one key, of a length that a key may have
 module _ (p : List ℕ) (s : Passed 6 p None) (h : has_hardware_key p ≡ false) where
