@@ -1,5 +1,5 @@
 -- The laws of what a reply must keep and of what it tells. Assumes nothing.
-use Prim.Native.Nat.{ℕ, zero, suc, ◌+◌, ◌*◌, ◌/◌, ◌≤◌, ◌<◌}
+use Prim.Native.Nat.{ℕ, zero, suc, ◌+◌, ◌-◌, ◌*◌, ◌/◌, ◌≤◌, ◌<◌}
 use mathlib.Core.Path.{◌≡◌, refl, sym, ap, ◌∙◌}
 use mathlib.Core.Bool.{Bool, true, false, ◌&&◌}
 use mathlib.Core.List.{List, [], ◌∷◌, ◌++◌}
@@ -7,17 +7,20 @@ use mathlib.Core.Option.{none}
 use native.Mathlib.Omega.{arith}
 use native.Mathlib.Nat.{zero-add}
 use native.Mathlib.Numerals.{add-one}
-use lib.ListN.{length, get_or, drop, set, replicate}
+use lib.ListN.{length, get_or, take, drop, set, replicate}
 use lib.Seq.{get_or-drop}
+use Rattle.std.specs.Prelude.{Some}
+use Rattle.clock.specs.Clock.{span}
 use Rattle.octets.specs.Number.{number_at}
 use Rattle.octets.specs.Write.{put, laid}
 use Rattle.octets.proofs.WriteLaws.{put_more}
+use Rattle.leasepacket.specs.Packet.{part}
 use Rattle.leasepacket.specs.Options.{values_in, only_of}
 use Rattle.leasepacket.specs.ReplyOptions.{Rule, is_always}
 use Rattle.deskreply.specs.Reply.{keeps, keeps_all}
-use Rattle.leasepacket.proofs.OccurrenceLaws.{told_none}
-use Rattle.deskreply.specs.Reading.{numbers, addresses_by}
-use Rattle.deskreply.specs.Stages.{Short, addresses_of}
+use Rattle.leasepacket.proofs.OccurrenceLaws.{slice_is, told_none}
+use Rattle.deskreply.specs.Reading.{time_by, numbers, addresses_by}
+use Rattle.deskreply.specs.Stages.{Short, time_of, addresses_of}
 
 -- ---- the rules of one list behind those of another
 pub keeps_both : (rs qs : List Rule) (p : List ℕ) → keeps_all (rs ++ qs) p ≡ (keeps_all rs p && keeps_all qs p)
@@ -64,3 +67,12 @@ module _ (v : List ℕ) {vs : List (List ℕ)} (only : vs ≡ v ∷ []) where
 
   pub only_short : Short vs → length v ≤ 252
   only_short s = rw only at s
+
+-- ---- a time that is there just once, by the octets from its place to its end
+module _ (p : List ℕ) (at n : ℕ) where
+  abbrev slice : List ℕ
+  slice = take (at + n - at) (drop at p)
+
+  module _ (vs : List (List ℕ)) (only : vs ≡ part p at n ∷ []) where
+    pub time_once : (r : ℕ) → r ≡ number_at 4 slice 0 → time_of (Some (span r)) ≡ time_by vs
+    time_once r e = ap (λ (k : ℕ). time_of (Some (span k))) (e ∙ ap (λ (v : List ℕ). number_at 4 v 0) (slice_is p at n)) ∙ sym (ap time_by only)
