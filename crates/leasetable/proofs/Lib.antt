@@ -4,5 +4,6 @@ pub mod ClientLaws
 pub mod CandidateLaws
 pub mod LookLaws
 pub mod InsertLaws
+pub mod InsertingLaws
 pub mod Scan
 pub mod ScanWalk
