@@ -2,7 +2,7 @@
 use Prim.Native.Nat.{ℕ, ◌≤◌, ◌<◌}
 use mathlib.Core.Path.{◌≡◌, refl, sym, ap, ◌∙◌}
 use mathlib.Core.Bool.{Bool, true, false, cond, not, ◌&&◌, ◌||◌}
-use mathlib.Core.List.{List, [], ◌∷◌, ◌++◌, append-nil}
+use mathlib.Core.List.{List, [], ◌∷◌, ◌++◌}
 use native.Mathlib.Omega.{arith}
 use native.Mathlib.Nat.{zero-add}
 use lib.Dec.{ltb, leb, eqb}
@@ -14,8 +14,10 @@ use Rattle.octets.proofs.NumberLaws.{length_big_endian}
 use Rattle.octets.proofs.WriteLaws.{put_front}
 use Rattle.leasepacket.specs.Layout.{fixed_fields, option}
 use Rattle.leasepacket.specs.Query.{Asked, refused, by_address, by_client_id, first_of}
-use Rattle.deskquery.specs.Query.{hardware_key, packet, query_by, is_key, write_refusals, asked_by, first_refusal, fields}
-use Rattle.deskquery.specs.Promise.{refusal_of, given, QueryPromise, Wrote, number_of}
+use Rattle.deskquery.specs.Query.{hardware_key, packet, query_by, is_key, write_refusals, asked_by, first_refusal}
+use Rattle.deskquery.specs.Promise.{refusal_of, given, QueryPromise, Wrote, number_of, key_of, fields_for, option_for}
+use Rattle.deskquery.specs.declared.key.Key.{Key}
+use Rattle.deskquery.specs.declared.key.Key.TheVariants.{Address, Hardware, ClientId}
 use Rattle.deskquery.specs.declared.refuse.Refusal.{Refusal}
 use Rattle.deskquery.specs.declared.refuse.Refusal.TheVariants.{NotTaken, NoRoom}
 
@@ -60,8 +62,22 @@ accepts_room giaddr taken room e = ltb-false room 501 (go (eqb giaddr 0 || not t
     go true true e = absurd (omega arith)
     go false true e = absurd (omega arith)
 
-pub within_most : (n least most : ℕ) → (leb least n && leb n most) ≡ true → n ≤ most
+within_most : (n least most : ℕ) → (leb least n && leb n most) ≡ true → n ≤ most
 within_most n least most e = leb-true n most (and_right (leb least n) (leb n most) e)
+
+-- a key that is taken has so many octets at most
+pub hardware_most : (htype : ℕ) (octets : List ℕ) → is_key (hardware_key htype octets) ≡ true → length octets ≤ 16
+unfolding is_key hardware_key
+hardware_most htype octets e = within_most (length octets) 1 16 e
+
+pub id_most : (id : List ℕ) → is_key (by_client_id id) ≡ true → length id ≤ 255
+unfolding is_key
+id_most id e = within_most (length id) 2 255 e
+
+pub no_option : (k : Key) → ((id : _) → k ≡ ClientId id → ⊥) → option_for k ≡ []
+no_option (Address a) h = refl
+no_option (Hardware htype octets) h = refl
+no_option (ClientId id) h = absurd (h id refl)
 
 -- ---- no query is longer than 501 octets: 240 of fixed fields, 3 of option 53, 257 of a client id at most, the end
 zeros : length {A = ℕ} (replicate 16 0) ≡ 16
@@ -76,32 +92,31 @@ module _ (xid giaddr : ℕ) where
       let g = length_big_endian 4 giaddr in
       simp length-append (omega (arith, x, a, g))
 
-  pub address_short : (a : ℕ) → length (query_by xid giaddr (by_address a)) ≤ 501
+  address_short : (a : ℕ) → length (query_by xid giaddr (by_address a)) ≤ 501
   unfolding query_by
   address_short a = packet_short a 0 0 (replicate 16 0) [] zeros (omega arith)
 
-  pub hardware_short : (htype : ℕ) (octets : List ℕ) → length octets ≤ 16 → length (query_by xid giaddr (hardware_key htype octets)) ≤ 501
+  hardware_short : (htype : ℕ) (octets : List ℕ) → length octets ≤ 16 → length (query_by xid giaddr (hardware_key htype octets)) ≤ 501
   unfolding query_by hardware_key laid
   hardware_short htype octets h =
       let l : length (octets ++ drop (length octets) (replicate 16 0)) ≡ 16 = simp (length-append, length-drop, zeros) (omega arith) in
       packet_short 0 htype (length octets) (octets ++ drop (length octets) (replicate 16 0)) [] l (omega arith)
 
-  pub id_short : (id : List ℕ) → length id ≤ 255 → length (query_by xid giaddr (by_client_id id)) ≤ 501
+  id_short : (id : List ℕ) → length id ≤ 255 → length (query_by xid giaddr (by_client_id id)) ≤ 501
   unfolding query_by
   id_short id h = packet_short 0 0 0 (replicate 16 0) (option 61 id) zeros (omega arith)
 
-  -- ---- what a query consists of, in the order in which it is written
-  pub address_parts : (a : ℕ) → fields xid giaddr a 0 [] ++ option 53 (10 ∷ []) ++ (255 ∷ []) ≡ query_by xid giaddr (by_address a)
-  unfolding query_by packet laid
-  address_parts a = rw append-nil
+  -- ---- a query by the key that is handed in: what it consists of, in the order in which it is written, and its length
+  pub query_parts : (k : Key) → fields_for xid giaddr k ++ option 53 (10 ∷ []) ++ option_for k ++ (255 ∷ []) ≡ query_by xid giaddr (key_of k)
+  unfolding query_by packet hardware_key laid
+  query_parts (Address a) = refl
+  query_parts (Hardware htype octets) = refl
+  query_parts (ClientId id) = refl
 
-  pub hardware_parts : (htype : ℕ) (octets : List ℕ) → fields xid giaddr 0 htype octets ++ option 53 (10 ∷ []) ++ (255 ∷ []) ≡ query_by xid giaddr (hardware_key htype octets)
-  unfolding query_by packet hardware_key
-  hardware_parts htype octets = rw append-nil
-
-  pub id_parts : (id : List ℕ) → fields xid giaddr 0 0 [] ++ option 53 (10 ∷ []) ++ option 61 id ++ (255 ∷ []) ≡ query_by xid giaddr (by_client_id id)
-  unfolding query_by packet laid
-  id_parts id = refl
+  pub query_short : (k : Key) → is_key (key_of k) ≡ true → length (query_by xid giaddr (key_of k)) ≤ 501
+  query_short (Address a) e = address_short a
+  query_short (Hardware htype octets) e = hardware_short htype octets.now (hardware_most htype octets.now e)
+  query_short (ClientId id) e = id_short id.now (id_most id.now e)
 
 -- ---- a query was written into a buffer with room for any
 pub wrote : {b ys w : List ℕ} (l : List ℕ) (n : ℕ) → ys ≡ w → 501 ≤ length b → length w ≤ 501 → WroteIf b 0 ys l n → Wrote w b n l
@@ -131,6 +146,13 @@ module _ (giaddr : ℕ) (key : Asked) (room : ℕ) where
       go false true e = absurd (omega arith)
       go false false e = refl
 
+-- a key that is handed in is no refusal
+key_refusal : (k : Key) → refusal_of (key_of k) ≡ 0
+unfolding hardware_key
+key_refusal (Address a) = refl
+key_refusal (Hardware htype octets) = refl
+key_refusal (ClientId id) = refl
+
 module _ (xid giaddr : ℕ) (key : Asked) (before : List ℕ) where
   pub promised_refusal : (r : Refusal) → number_of r ≡ first_refusal giaddr (is_key key) (length before) → QueryPromise xid giaddr key before (record { refusal = number_of r; length = 0 }) before
   unfolding given query_by laid
@@ -140,6 +162,6 @@ module _ (xid giaddr : ℕ) (key : Asked) (before : List ℕ) where
       not_zero NotTaken z = omega (arith, z)
       not_zero NoRoom z = omega (arith, z)
 
-  pub promised_query : (after : List ℕ) (n : ℕ) → refusal_of key ≡ 0 → first_refusal giaddr (is_key key) (length before) ≡ 0 → Wrote (query_by xid giaddr key) before n after → QueryPromise xid giaddr key before (record { refusal = 0; length = n }) after
-  unfolding given
-  promised_query after n k e w = rw (asked_key giaddr key (length before) e, k, w.answers, w.holds)
+pub promised_query : (xid giaddr : ℕ) (k : Key) (before after : List ℕ) (n : ℕ) → first_refusal giaddr (is_key (key_of k)) (length before) ≡ 0 → Wrote (query_by xid giaddr (key_of k)) before n after → QueryPromise xid giaddr (key_of k) before (record { refusal = 0; length = n }) after
+unfolding given
+promised_query xid giaddr k before after n e w = rw (asked_key giaddr (key_of k) (length before) e, key_refusal k, w.answers, w.holds)

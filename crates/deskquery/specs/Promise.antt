@@ -1,11 +1,14 @@
 -- What the calls that write a query promise. Document 02, d).
-use Rattle.std.specs.Prelude.{ℕ, ◌≤◌, ◌≡◌, List, length, Result, Ok, Err}
+use Rattle.std.specs.Prelude.{ℕ, ◌≤◌, ◌≡◌, List, [], length, Result, Ok, Err}
 use Rattle.octets.specs.Write.{laid}
 use Rattle.leasepacket.specs.Query.{Asked, refused, by_address, by_hardware, by_client_id}
 use Rattle.deskquery.specs.declared.QueryAnswer.{QueryAnswer}
+use Rattle.deskquery.specs.declared.key.Key.{Key}
+use Rattle.deskquery.specs.declared.key.Key.TheVariants.{Address, Hardware, ClientId}
 use Rattle.deskquery.specs.declared.refuse.Refusal.{Refusal}
 use Rattle.deskquery.specs.declared.refuse.Refusal.TheVariants.{NotTaken, NoRoom}
-use Rattle.deskquery.specs.Query.{query_by, asked_by}
+use Rattle.leasepacket.specs.Layout.{option}
+use Rattle.deskquery.specs.Query.{hardware_key, query_by, asked_by, fields}
 
 -- The number of a refusal; 0 says that there is none.
 abbrev pub refusal_of : Asked → ℕ
@@ -40,3 +43,20 @@ number_of NoRoom = 32
 abbrev pub number_in : Result (Unit {0}) Refusal → ℕ
 number_in (Ok _) = 0
 number_in (Err r) = number_of r
+
+-- The key that is handed in.
+abbrev pub key_of : Key → Asked
+key_of (Address address) = by_address address
+key_of (Hardware htype octets) = hardware_key htype octets.now
+key_of (ClientId id) = by_client_id id.now
+
+-- The fixed fields of a query by it, and the option that it has of its own.
+abbrev pub fields_for : ℕ → ℕ → Key → List ℕ
+fields_for xid giaddr (Address address) = fields xid giaddr address 0 []
+fields_for xid giaddr (Hardware htype octets) = fields xid giaddr 0 htype octets.now
+fields_for xid giaddr (ClientId id) = fields xid giaddr 0 0 []
+
+abbrev pub option_for : Key → List ℕ
+option_for (Address address) = []
+option_for (Hardware htype octets) = []
+option_for (ClientId id) = option 61 id.now

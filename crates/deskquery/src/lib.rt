@@ -6,11 +6,14 @@
 ghost use Rattle.std.specs.Prelude.{◌≡◌, ◌≤◌};
 ghost use Rattle.leasepacket.specs.Query.{by_address, by_client_id};
 ghost use Rattle.deskquery.specs.Query.{hardware_key};
-ghost use Rattle.deskquery.specs.Promise.{QueryPromise, number_of};
+ghost use Rattle.deskquery.specs.Promise.{QueryPromise, number_of, key_of};
 
+use key::Key;
 use refuse::Refusal;
+use write::Query;
 
 pub mod fixed;
+pub mod key;
 pub mod refuse;
 pub mod write;
 
@@ -43,6 +46,16 @@ fn written(n: usize) -> QueryAnswer
     }
 }
 
+// Writes the query by a key, or says why none is written.
+fn ask(xid: u32, giaddr: u32, key: Key, query: &mut [u8]) -> QueryAnswer
+    ensures { QueryPromise xid giaddr (key_of key.entry) query.old result query.new }
+{
+    match refuse::first_refusal(giaddr, key.is_taken(), query.len()) {
+        Ok(()) => written(Query { xid, giaddr, key }.put(query)),
+        Err(refusal) => refused(refusal),
+    }
+}
+
 // Writes a query by address.
 pub fn jespurla_query_by_address(
     xid: u32,
@@ -52,10 +65,7 @@ pub fn jespurla_query_by_address(
 ) -> QueryAnswer
     ensures { QueryPromise xid giaddr (by_address address) query.old result query.new }
 {
-    match refuse::first_refusal(giaddr, address != 0, query.len()) {
-        Ok(()) => written(write::by_address(query, xid, giaddr, address)),
-        Err(refusal) => refused(refusal),
-    }
+    ask(xid, giaddr, Key::Address(address), query)
 }
 
 // Writes a query by hardware address: its type, and its octets, whose number is hlen.
@@ -68,11 +78,7 @@ pub fn jespurla_query_by_hardware(
 ) -> QueryAnswer
     ensures { QueryPromise xid giaddr (hardware_key htype chaddr.now) query.old result query.new }
 {
-    let taken = refuse::is_within(chaddr.len(), 1, 16);
-    match refuse::first_refusal(giaddr, taken, query.len()) {
-        Ok(()) => written(write::by_hardware(query, xid, giaddr, htype, chaddr)),
-        Err(refusal) => refused(refusal),
-    }
+    ask(xid, giaddr, Key::Hardware(htype, chaddr), query)
 }
 
 // Writes a query by client id.
@@ -84,9 +90,5 @@ pub fn jespurla_query_by_client_id(
 ) -> QueryAnswer
     ensures { QueryPromise xid giaddr (by_client_id id.now) query.old result query.new }
 {
-    let taken = refuse::is_within(id.len(), 2, 255);
-    match refuse::first_refusal(giaddr, taken, query.len()) {
-        Ok(()) => written(write::by_client_id(query, xid, giaddr, id)),
-        Err(refusal) => refused(refusal),
-    }
+    ask(xid, giaddr, Key::ClientId(id), query)
 }

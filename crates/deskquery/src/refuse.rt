@@ -1,5 +1,5 @@
 // The refusals of a query that is to be written: 19, then 32.
-ghost use Rattle.std.specs.Prelude.{◌≡◌, ◌&&◌, leb};
+ghost use Rattle.std.specs.Prelude.{◌≡◌};
 ghost use Rattle.deskquery.specs.Query.{first_refusal};
 ghost use Rattle.deskquery.specs.Promise.{number_of, number_in};
 
@@ -19,13 +19,6 @@ impl From<Refusal> for u32 {
     fn from(refusal: Refusal) -> u32 {
         refusal as u32
     }
-}
-
-// Whether a length is among those that a key may have.
-pub(crate) fn is_within(n: usize, least: usize, most: usize) -> bool
-    ensures { result ≡ (leb least n && leb n most) }
-{
-    least <= n && n <= most
 }
 
 // The first refusal that applies.

@@ -1,14 +1,65 @@
-// The queries by each key, into a buffer with room for any. Each answers its length.
-ghost use Rattle.std.specs.Prelude.{[], ◌∷◌, ◌++◌, length, ◌≤◌};
+// A query by any key, into a buffer with room for any.
+ghost use Rattle.std.specs.Prelude.{[], ◌∷◌, ◌≡◌, true, length, ◌≤◌};
 ghost use Rattle.octets.specs.Write.{WroteIf};
 ghost use Rattle.leasepacket.specs.Layout.{option};
-ghost use Rattle.leasepacket.specs.Query.{by_address, by_client_id};
-ghost use Rattle.deskquery.specs.Query.{fields, hardware_key, query_by};
-ghost use Rattle.deskquery.specs.Promise.{Wrote};
+ghost use Rattle.deskquery.specs.Query.{fields, is_key, query_by};
+ghost use Rattle.deskquery.specs.Promise.{Wrote, key_of, fields_for, option_for};
 
-use crate::fixed;
+use crate::fixed::Fixed;
+use crate::key::Key;
 use leasepacket::layout;
 use octets::write;
+
+// What a query says. Its key is one that a box takes.
+#[derive(Clone, Copy)]
+pub struct Query<'a> {
+    pub xid: u32,
+    pub giaddr: u32,
+    pub key: Key<'a>,
+    ghost taken: { is_key (key_of key) ≡ true },
+}
+
+impl Query<'_> {
+    // What the fixed fields say.
+    fn fixed(&self) -> Fixed<'_>
+        ensures { fields result.xid result.giaddr result.ciaddr result.htype result.octets.now ≡ fields_for self.now.xid self.now.giaddr self.now.key }
+    {
+        let (ciaddr, htype, octets): (u32, u8, &[u8]) = match self.key {
+            Key::Address(address) => (address, 0, &[]),
+            Key::Hardware(htype, octets) => (0, htype, octets),
+            Key::ClientId(_) => (0, 0, &[]),
+        };
+        Fixed {
+            xid: self.xid,
+            giaddr: self.giaddr,
+            ciaddr,
+            htype,
+            octets,
+        }
+    }
+
+    // The client id as an option, if the key is one.
+    fn put_id(&self, buf: &mut [u8], at: usize) -> usize
+        ensures { WroteIf buf.old at (option_for self.now.key) buf.new result }
+    {
+        let Key::ClientId(id) = self.key else {
+            return at;
+        };
+        let a = write::put_octets(buf, at, &[layout::CLIENT_ID, id.len() as u8]);
+        write::put_octets(buf, a, id)
+    }
+
+    // All of it. The answer is its length.
+    pub(crate) fn put(&self, buf: &mut [u8]) -> usize
+        requires { 501 ≤ length buf.old }
+        ensures { Wrote (query_by self.now.xid self.now.giaddr (key_of self.now.key)) buf.old result buf.new }
+    {
+        let a = self.fixed().put(buf);
+        let b = put_type(buf, a);
+        let c = self.put_id(buf, b);
+        write::put_octet(buf, c, layout::END)
+    }
+}
 
 // The message type (53), which says that this is a lease query.
 fn put_type(buf: &mut [u8], at: usize) -> usize
@@ -16,51 +67,4 @@ fn put_type(buf: &mut [u8], at: usize) -> usize
 {
     let kind = [layout::MESSAGE_TYPE, 1, layout::DHCPLEASEQUERY];
     write::put_octets(buf, at, &kind)
-}
-
-// The fixed fields and the message type, which every query begins with.
-fn put_head(buf: &mut [u8], xid: u32, giaddr: u32, ciaddr: u32, htype: u8, octets: &[u8]) -> usize
-    requires { length octets.now ≤ 16 }
-    ensures { WroteIf buf.old 0 (fields xid giaddr ciaddr htype octets.now ++ option 53 (10 ∷ [])) buf.new result }
-{
-    let a = fixed::put_fixed(buf, xid, giaddr, ciaddr, htype, octets);
-    put_type(buf, a)
-}
-
-// The client id as an option.
-fn put_id(buf: &mut [u8], at: usize, id: &[u8]) -> usize
-    requires { length id.now ≤ 255 }
-    ensures { WroteIf buf.old at (option 61 id.now) buf.new result }
-{
-    let a = write::put_octet(buf, at, layout::CLIENT_ID);
-    let b = write::put_octet(buf, a, id.len() as u8);
-    write::put_octets(buf, b, id)
-}
-
-// By address.
-pub(crate) fn by_address(buf: &mut [u8], xid: u32, giaddr: u32, address: u32) -> usize
-    requires { 501 ≤ length buf.old }
-    ensures { Wrote (query_by xid giaddr (by_address address)) buf.old result buf.new }
-{
-    let a = put_head(buf, xid, giaddr, address, 0, &[]);
-    write::put_octet(buf, a, layout::END)
-}
-
-// By hardware address.
-pub(crate) fn by_hardware(buf: &mut [u8], xid: u32, giaddr: u32, htype: u8, octets: &[u8]) -> usize
-    requires { (501 ≤ length buf.old) × (length octets.now ≤ 16) }
-    ensures { Wrote (query_by xid giaddr (hardware_key htype octets.now)) buf.old result buf.new }
-{
-    let a = put_head(buf, xid, giaddr, 0, htype, octets);
-    write::put_octet(buf, a, layout::END)
-}
-
-// By client id.
-pub(crate) fn by_client_id(buf: &mut [u8], xid: u32, giaddr: u32, id: &[u8]) -> usize
-    requires { (501 ≤ length buf.old) × (length id.now ≤ 255) }
-    ensures { Wrote (query_by xid giaddr (by_client_id id.now)) buf.old result buf.new }
-{
-    let a = put_head(buf, xid, giaddr, 0, 0, &[]);
-    let b = put_id(buf, a, id);
-    write::put_octet(buf, b, layout::END)
 }

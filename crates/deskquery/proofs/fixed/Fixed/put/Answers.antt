@@ -1,6 +1,6 @@
 use Rattle.octets.proofs.WriteLaws.{then}
 use Rattle.leasepacket.specs.Layout.{fixed_fields}
-use Rattle.deskquery.proofs.fixed.put_fixed.Goals as goal
+use Rattle.deskquery.proofs.fixed.Fixed.put.Goals as goal
 
 pub returns : goal.returns
 unfolding fixed_fields

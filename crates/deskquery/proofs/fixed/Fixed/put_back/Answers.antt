@@ -1,9 +1,9 @@
 use Rattle.octets.proofs.WriteLaws.{written, more}
-use Rattle.deskquery.proofs.fixed.put_back.Goals as goal
+use Rattle.deskquery.proofs.fixed.Fixed.put_back.Goals as goal
 
 pub returns : goal.returns
 returns c =
-    rw (← c.padded-chaddr.ensures)
+    rw (← c.chaddr.ensures)
     (more
     (more
     (more

@@ -1,5 +1,5 @@
 use Rattle.octets.proofs.WriteLaws.{written, more}
-use Rattle.deskquery.proofs.fixed.put_front.Goals as goal
+use Rattle.deskquery.proofs.fixed.Fixed.put_front.Goals as goal
 
 pub returns : goal.returns
 returns c = more (more (more (written c.put_octets-a.ensures) c.put_u32-b.ensures) c.put_zeros-c.ensures) c.put_zeros.ensures

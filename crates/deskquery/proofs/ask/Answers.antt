@@ -1,0 +1,20 @@
+use Rattle.std.proofs.Common.{sym, ◌∙◌}
+use Rattle.deskquery.specs.Promise.{key_of}
+use Rattle.deskquery.proofs.QueryLaws.{accepts_room, accepts_key, promised_refusal, promised_query}
+use Rattle.deskquery.proofs.ask.Goals as goal
+
+pub invariant_of-put : goal.invariant_of-put
+invariant_of-put c = record { taken = sym c.is_taken.ensures ∙ accepts_key _ _ _ (sym c.in-Ok.ensures) }
+
+pub put-requires : goal.put-requires
+put-requires c = accepts_room _ _ _ (sym c.in-Ok.ensures)
+
+pub returns-in-Ok : goal.returns-in-Ok
+returns-in-Ok c =
+    let s = c.args in
+    rw c.written.ensures (promised_query s.xid s.giaddr s.key s.query.now c.put.new.buf c.put.result (sym (rw c.is_taken.ensures at c.in-Ok.ensures)) c.put.ensures)
+
+pub returns-in-Err : goal.returns-in-Err
+returns-in-Err c =
+    let s = c.args in
+    rw c.refused.ensures (promised_refusal s.xid s.giaddr (key_of s.key) s.query.now c.in-Err.refusal (rw c.is_taken.ensures at c.in-Err.ensures))

@@ -1,5 +1,0 @@
-use Rattle.octets.proofs.WriteLaws.{written, more}
-use Rattle.deskquery.proofs.write.put_id.Goals as goal
-
-pub returns : goal.returns
-returns c = more (more (written c.put_octet-a.ensures) c.put_octet-b.ensures) c.put_octets.ensures
