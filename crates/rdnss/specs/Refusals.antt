@@ -20,9 +20,9 @@ module _ (list : ServerList) (clock : Moment) (router : Span) (area : List ℕ) 
   abbrev pub Checked : Result Unit Refusal → Type 0
   Checked r = MatchResult r (λ _. refusal_of list clock router area ≡ 0) (λ e. refusal_of list clock router area ≡ number e)
 
-  -- The list after an area, or the first refusal that applies.
-  abbrev pub Updated : Result ServerList Refusal → Type 0
-  Updated r =
+  -- The list after an area; or the first refusal that applies, and the list as it was.
+  abbrev pub Updated : ServerList → Result Unit Refusal → Type 0
+  Updated after r =
       MatchResult r
-      (λ l. (refusal_of list clock router area ≡ 0) × (l ≡ packed clock (servers_after clock router area (held list))))
-      (λ e. refusal_of list clock router area ≡ number e)
+      (λ _. (refusal_of list clock router area ≡ 0) × (after ≡ packed clock (servers_after clock router area (held list))))
+      (λ e. (refusal_of list clock router area ≡ number e) × (after ≡ list))

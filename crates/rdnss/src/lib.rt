@@ -73,14 +73,14 @@ fn check(list: &ServerList, arrival: Arrival, area: &[u8]) -> Result<(), Refusal
     Ok(())
 }
 
-// The list after an area, if the call is not refused.
-fn updated(list: &ServerList, arrival: Arrival, area: &[u8]) -> Result<ServerList, Refusal>
-    ensures { Updated list.now arrival.clock arrival.router area.now result }
+// The list brought up to date by an area. With a refusal it stays as it is.
+fn update(list: &mut ServerList, arrival: Arrival, area: &[u8]) -> Result<(), Refusal>
+    ensures { Updated list.old arrival.clock arrival.router area.now list.new result }
 {
     check(list, arrival, area)?;
-    let mut l = expiry::without_expired(list, arrival.clock);
-    area::apply_all(&mut l, area, arrival);
-    Ok(l)
+    expiry::without_expired(list, arrival.clock);
+    area::apply_all(list, area, arrival);
+    Ok(())
 }
 
 // The list after a router's option area has come in at a clock. Refused are, in this order: a list
@@ -88,18 +88,16 @@ fn updated(list: &ServerList, arrival: Arrival, area: &[u8]) -> Result<ServerLis
 // above 65,535 (15), and an area of more than 1,500 octets, or with an option of Length 0 or past the
 // end (16): the area is tested whole before anything is applied.
 pub fn jespurla_server_list(
-    list: ServerList,
+    mut list: ServerList,
     clock: Moment,
     router: Span,
     area: &[u8],
 ) -> ServerListAnswer
     ensures { result ≡ server_list list clock router area.now }
 {
-    match updated(&list, Arrival { clock, router }, area) {
-        Ok(list) => ServerListAnswer { refusal: 0, list },
-        Err(refusal) => ServerListAnswer {
-            refusal: refusal.into(),
-            list,
-        },
-    }
+    let refusal = match update(&mut list, Arrival { clock, router }, area) {
+        Ok(()) => 0,
+        Err(refusal) => refusal.into(),
+    };
+    ServerListAnswer { refusal, list }
 }

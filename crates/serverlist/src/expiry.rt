@@ -29,30 +29,26 @@ fn is_any_expired(l: &ServerList, clock: Moment) -> bool
     l.held().iter().any(|e| entry::is_expired(*e, clock))
 }
 
-// The list at a new clock, with all its entries.
-fn at_clock(l: &ServerList, clock: Moment) -> ServerList
-    requires { l.now.count ≤ places }
-    ensures { result ≡ packed clock (held l.now) }
+// A new clock, with all entries.
+fn set_clock(l: &mut ServerList, clock: Moment)
+    requires { l.old.count ≤ places }
+    ensures { l.new ≡ packed clock (held l.old) }
 {
-    let mut entries = [entry::blank(); PLACES];
-    entries[..l.count].copy_from_slice(l.held());
-    ServerList {
-        entries,
-        count: l.count,
-        clock,
-    }
+    l.entries[l.count..].fill(entry::blank());
+    l.clock = clock;
 }
 
 // The list at a new clock, without the entries that expired before it. Mostly none did, and then no
 // entry moves. A count above eight is none of a list, and what has it stays as it is.
-pub fn without_expired(l: &ServerList, clock: Moment) -> ServerList
-    ensures { result ≡ at_clock clock l.now }
+pub fn without_expired(l: &mut ServerList, clock: Moment)
+    ensures { l.new ≡ at_clock clock l.old }
 {
     if PLACES < l.count {
-        return *l;
+        return;
     }
     if is_any_expired(l, clock) {
-        return filtered(l, clock);
+        *l = filtered(l, clock);
+    } else {
+        set_clock(l, clock);
     }
-    at_clock(l, clock)
 }

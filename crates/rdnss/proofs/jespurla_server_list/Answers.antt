@@ -14,5 +14,5 @@ pub returns-in-Err : goal.returns-in-Err
 returns-in-Err c =
     let s = c.args in
     let h = c.in-Err.ensures in
-    let e = c.into.ensures ∙ sym h in
-    ap (λ (n : ℕ). answer n s.list) e ∙ refusing s.list s.clock s.router s.area.now (λ z. numbered c.in-Err.refusal (sym h ∙ z))
+    let e = c.into-refusal.ensures ∙ sym h.0 in
+    rw h.1 (ap (λ (n : ℕ). answer n s.list) e ∙ refusing s.list s.clock s.router s.area.now (λ z. numbered c.in-Err.refusal (sym h.0 ∙ z)))
