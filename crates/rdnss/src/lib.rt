@@ -88,16 +88,16 @@ fn update(list: &mut ServerList, arrival: Arrival, area: &[u8]) -> Result<(), Re
 // above 65,535 (15), and an area of more than 1,500 octets, or with an option of Length 0 or past the
 // end (16): the area is tested whole before anything is applied.
 pub fn jespurla_server_list(
-    mut list: ServerList,
+    list: ServerList,
     clock: Moment,
     router: Span,
     area: &[u8],
 ) -> ServerListAnswer
     ensures { result ≡ server_list list clock router area.now }
 {
-    let refusal = match update(&mut list, Arrival { clock, router }, area) {
-        Ok(()) => 0,
-        Err(refusal) => refusal.into(),
-    };
-    ServerListAnswer { refusal, list }
+    let mut answer = ServerListAnswer { refusal: 0, list };
+    if let Err(refusal) = update(&mut answer.list, Arrival { clock, router }, area) {
+        answer.refusal = refusal.into();
+    }
+    answer
 }
