@@ -7,7 +7,7 @@ use crate::LeaseAnswer;
 use clock::Moment;
 use lease::activity;
 use leasepacket::layout;
-use leasereply::reply;
+use leasereply::reply::{self, Active};
 use leasetable::look::Found;
 
 // A reply of a kind and a length was written.
@@ -33,7 +33,13 @@ fn other(kind: u8, server: u32, query: &[u8], buf: &mut [u8]) -> LeaseAnswer
 fn active(f: &Found, n: usize, server: u32, query: &[u8], buf: &mut [u8]) -> LeaseAnswer
     ensures { Gives (active_of f.now n server query.now buf.old) buf.old result buf.new }
 {
-    let len = reply::write_active(buf, f.clock, server, query, f.best, &f.ranks, n);
+    let told = Active {
+        clock: f.clock,
+        lease: f.best,
+        ranks: &f.ranks,
+        n,
+    };
+    let len = reply::write_active(buf, server, query, told);
     replied(layout::DHCPLEASEACTIVE, len)
 }
 

@@ -8,7 +8,7 @@ use native.Mathlib.Nat.{zero-add, mod-add-div, add-mul-mod_self_left, add-mul-di
 use native.Mathlib.Numerals.{add-one}
 use lib.ListN.{length, take, drop, get_or, length-append, length-take, length-map}
 use lib.Dec.{ltb, eqb, lit<}
-use borrow.Author.Tests.{lt-ltb, le-ltb, ltb-false}
+use borrow.Author.Tests.{ltb-false}
 use lib.Seq.{take-suc, length-take-le}
 use Rattle.octets.proofs.BoolLaws.{or_right}
 use Rattle.clock.specs.declared.Moment.{Moment}
@@ -155,20 +155,17 @@ active_short clock server q x addresses p r h =
 
 -- ---- what a writer did, by whether query and buffer are long enough
 module _ (q b : List ℕ) where
-  pub fits_not_query : (w : List ℕ) → length q < 240 → Wrote q b w 0 b
+  pub fits_not : (w : List ℕ) → (ltb (length q) 240 || ltb (length b) 648) ≡ true → Wrote q b w 0 b
   unfolding laid
-  fits_not_query w h = record { answers = rw (lt-ltb (length q) 240 h); holds = rw (lt-ltb (length q) 240 h); few = omega arith }
+  fits_not w e = record { answers = rw e; holds = rw e; few = omega arith }
 
-  pub fits_not_buffer : (w : List ℕ) → 240 ≤ length q → length b < 648 → Wrote q b w 0 b
-  unfolding laid
-  fits_not_buffer w h k = record { answers = rw (le-ltb (length q) 240 h, lt-ltb (length b) 648 k); holds = rw (le-ltb (length q) 240 h, lt-ltb (length b) 648 k); few = omega arith }
-
-  pub fits : (w l : List ℕ) (n : ℕ) → 240 ≤ length q → 648 ≤ length b → length w ≤ 648 → WroteIf b 0 w l n → Wrote q b w n l
-  fits w l n h k s v =
+  pub fits : (w l : List ℕ) (n : ℕ) → (ltb (length q) 240 || ltb (length b) 648) ≡ false → length w ≤ 648 → WroteIf b 0 w l n → Wrote q b w n l
+  fits w l n e s v =
+      let k : 648 ≤ length b = ltb-false (length b) 648 (or_right (ltb (length q) 240) (ltb (length b) 648) e) in
       let r = v.fit (omega arith) in
       record {
-        answers = rw (le-ltb (length q) 240 h, le-ltb (length b) 648 k) (r.next ∙ zero-add (length w));
-        holds = rw (le-ltb (length q) 240 h, le-ltb (length b) 648 k) (r.list ∙ put_front b w);
+        answers = rw e (r.next ∙ zero-add (length w));
+        holds = rw e (r.list ∙ put_front b w);
         few = omega (arith, r.next, s);
       }
 

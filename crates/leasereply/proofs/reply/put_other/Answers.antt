@@ -1,8 +1,8 @@
-use Rattle.octets.proofs.WriteLaws.{more, then}
+use Rattle.octets.proofs.WriteLaws.{more}
 use Rattle.leasereply.specs.Reply.{other_reply}
 use Rattle.leasereply.proofs.ReplyLaws.{other_parts}
 use Rattle.leasereply.proofs.reply.put_other.Goals as goal
 
 pub returns : goal.returns
 unfolding other_reply
-returns c = rw (other_parts _ _ _ _) (more (then (then c.put_fixed-a.ensures c.put_kind-b.ensures) c.put_number-c.ensures) c.put_octet.ensures)
+returns c = rw (other_parts _ _ _ _) (more c.put_head-a.ensures c.put_octet.ensures)

@@ -1,7 +1,7 @@
 use Rattle.octets.proofs.WriteLaws.{then}
 use Rattle.leasepacket.specs.Layout.{fixed_fields}
 use Rattle.leasereply.specs.Reply.{fixed}
-use Rattle.leasereply.proofs.fixed.put_fixed.Goals as goal
+use Rattle.leasereply.proofs.fixed.Fixed.put.Goals as goal
 
 pub returns : goal.returns
 unfolding fixed fixed_fields
