@@ -8,3 +8,5 @@ pub mod AnswerLaws
 pub mod PromiseLaws
 pub mod RequestLaws
 pub mod LentLaws
+pub mod KindLaws
+pub mod VisitLaws
