@@ -98,12 +98,12 @@ fn named_by(option: &[u8]) -> &[[u8; 16]]
     &addresses[..address_count(usize::from(option[1]))]
 }
 
-// What an option names, withdrawn.
-fn withdraw(l: &mut ServerList, option: &[u8])
-    requires { InPlaces server_places l.old × OptionFits option.now }
-    ensures { l.new ≡ packed l.old.clock (foldl (λ h a. removed servers a h) (held l.old) (named_by option.now)) }
+// Addresses withdrawn.
+fn withdraw(l: &mut ServerList, addresses: &[[u8; 16]])
+    requires { InPlaces server_places l.old }
+    ensures { l.new ≡ packed l.old.clock (foldl (λ h a. removed servers a h) (held l.old) (map address addresses.now)) }
 {
-    for octets in named_by(option) {
+    for octets in addresses {
         let a = Address6 { octets: *octets };
         if let Some(k) = search::find(l, a) {
             shift::remove(l, k);
@@ -111,13 +111,13 @@ fn withdraw(l: &mut ServerList, option: &[u8])
     }
 }
 
-// What an option names, renewed where it stands or inserted.
-fn name(l: &mut ServerList, option: &[u8], x: Moments)
-    requires { InPlaces server_places l.old × OptionFits option.now }
-    ensures { l.new ≡ packed l.old.clock (named_all servers false x (named_by option.now) (held l.old)) }
+// Addresses renewed where they stand or inserted.
+fn name(l: &mut ServerList, addresses: &[[u8; 16]], x: Moments)
+    requires { InPlaces server_places l.old }
+    ensures { l.new ≡ packed l.old.clock (named_all servers false x (map address addresses.now) (held l.old)) }
 {
     let mut own = 0;
-    for octets in named_by(option) {
+    for octets in addresses {
         let a = Address6 { octets: *octets };
         if let Some(k) = search::find(l, a) {
             l.entries[k] = entry::renew(l.entries[k], x);
@@ -132,9 +132,10 @@ pub(crate) fn apply(l: &mut ServerList, option: &[u8], arrival: Arrival)
     requires { InPlaces server_places l.old × OptionFits option.now }
     ensures { l.new ≡ packed l.old.clock (option_applied arrival.clock arrival.router servers named_by (held l.old) option.now) }
 {
+    let addresses = named_by(option);
     if arrival.withdraws(option) {
-        withdraw(l, option);
+        withdraw(l, addresses);
     } else {
-        name(l, option, arrival.moments(option));
+        name(l, addresses, arrival.moments(option));
     }
 }

@@ -1,12 +1,9 @@
 -- What the general laws ask of entries holds of servers, and the laws of the list's form. Assumes nothing.
 use mathlib.Core.Path.{◌≡◌, refl, ap, sym, ◌∙◌}
-use mathlib.Core.Bool.{Bool, true, false, ◌&&◌, and-false, and-true}
+use mathlib.Core.Bool.{Bool, true, false, ◌&&◌, and-false}
 use mathlib.Core.List.{List}
-use Prim.Native.Nat.{ℕ, suc, ◌+◌, ◌≤◌, ◌<◌}
-use lib.Dec.{leb, eqb}
-use lib.ListN.{length, get_or, drop, drop_of_length-le}
-use lib.Seq.{drop-cons}
-use native.Mathlib.Numerals.{add-one}
+use Prim.Native.Nat.{ℕ, ◌≤◌, ◌<◌}
+use lib.Dec.{leb}
 use borrow.Author.Tests.{le-leb, lt-leb, leb-true}
 use Rattle.octets.specs.Compare.{same_octets}
 use Rattle.octets.proofs.BoolLaws.{and_left, and_right}
@@ -62,17 +59,3 @@ module _ (l : ServerList) where
 
   pub at_clock_fits : (clock : Moment) → l.count ≤ places → at_clock clock l ≡ packed clock (unexpired servers clock (held l))
   at_clock_fits clock h = rw (le-leb l.count places h)
-
--- octets compared one by one with no way out: a turn, and the end
-pub same_turn : (s : Bool) (x y : List ℕ) (i c d : ℕ) → i < length x → i < length y
-    → ((s && eqb (get_or x i c) (get_or y i d)) && same_octets (drop (i + 1) x) (drop (i + 1) y)) ≡ (s && same_octets (drop i x) (drop i y))
-unfolding same_octets
-same_turn s x y i c d h k = rw (add-one, drop-cons x i c h, drop-cons y i d k) (along s (eqb (get_or x i c) (get_or y i d)) (same_octets (drop (suc i) x) (drop (suc i) y)))
-  where
-    along : (p q r : Bool) → ((p && q) && r) ≡ (p && (q && r))
-    along true q r = refl
-    along false q r = refl
-
-pub same_end : (s : Bool) (x y : List ℕ) (i : ℕ) → length x ≤ i → length y ≤ i → (s && same_octets (drop i x) (drop i y)) ≡ s
-unfolding same_octets
-same_end s x y i h k = rw (drop_of_length-le x {i = i} h, drop_of_length-le y {i = i} k) (and-true s)

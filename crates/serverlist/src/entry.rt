@@ -37,15 +37,11 @@ pub fn renew(e: Server, m: Moments) -> Server
     about(e.address, m)
 }
 
-// Whether an entry is about an address. All its octets are compared, so that it compiles to vector code.
+// Whether an entry is about an address.
 pub fn is_about(e: Server, a: Address6) -> bool
     ensures { result ≡ is_about servers a e }
 {
-    let mut same = true;
-    for (i, x) in a.octets.iter().enumerate() {
-        same &= *x == e.address.octets[i];
-    }
-    same
+    octets::compare::same(&a.octets, &e.address.octets)
 }
 
 // The moments of an entry.

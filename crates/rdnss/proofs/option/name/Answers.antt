@@ -45,13 +45,13 @@ loop-octets-preserved c =
           found servers server_places l.l l.own h.ready _ s.x k f.0 t
           (w.l-is ∙ set_packed server_places i k _ t ∙ ap (λ (e : Server). packed l.l.clock (replace_at k e (held l.l))) (w.renew.ensures ∙ ap (servers.renew s.x) (held_at server_places l.l k _ t (omega (arith, full_length server_places i, i.within)))))
           in
-          let a = again s.l.now l.l c.named_by-octets-items.result.now l.octets-index l.own _ s.x c.loop-octets-test.true h.clock h.left _ _ e in
+          let a = again s.l.now l.l c.args.addresses.now l.octets-index l.own _ s.x c.loop-octets-test.true h.clock h.left _ _ e in
           rw w.own-is (record { ready = e.ready; clock = a.0; left = a.1 })
       | in_default w ↦
           let f = no_place _ (held l.l) (sym w.in_default.ensures) in
-          let k = address (get_or c.named_by-octets-items.result.now l.octets-index []) in
+          let k = address (get_or c.args.addresses.now l.octets-index []) in
           let e = missing servers server_places l.l l.own h.ready k s.x (place (is_about servers k) (held l.l)) refl (omega (arith, f, n)) w.insert-own.ensures in
-          let a = again s.l.now l.l c.named_by-octets-items.result.now l.octets-index l.own _ s.x c.loop-octets-test.true h.clock h.left _ _ e in
+          let a = again s.l.now l.l c.args.addresses.now l.octets-index l.own _ s.x c.loop-octets-test.true h.clock h.left _ _ e in
           rw (w.l-is, w.own-is) (record { ready = e.ready; clock = a.0; left = a.1 })
     ]
 
@@ -61,7 +61,7 @@ returns c =
     let s = c.args in
     let l = c.loop-octets in
     let h = l.invariant in
-    let items = c.named_by-octets-items.result.now in
+    let items = c.args.addresses.now in
     let k = held s.l.now in
     let d : drop l.octets-index items ≡ [] = drop_of_length-le items (omega arith) in
     h.ready.list.packs
@@ -69,5 +69,4 @@ returns c =
     (ap (packed s.l.now.clock)
     (sym (marked_items l.own (held l.l))
     ∙ ap (map (λ m. m.item)) (sym (h.left ∙ ap (λ (x : List (List ℕ)). foldl (named servers false s.x) (marked l.own (held l.l)) (map address x)) d)
-    ∙ ap (λ (t : List (Marked Server)). foldl (named servers false s.x) t (map address items)) (marked_none k)
-    ∙ ap (foldl (named servers false s.x) (map (λ e. record { item = e; own = false }) k)) c.named_by-octets-items.ensures)))
+    ∙ ap (λ (t : List (Marked Server)). foldl (named servers false s.x) t (map address items)) (marked_none k))))

@@ -12,6 +12,6 @@ invariant-loop-octets l =
     record {
       ready : Ready server_places l.l l.own;
       clock : l.l.clock ≡ l.initial.l.clock;
-      left : foldl (named servers false l.x) (marked 0 (held l.initial.l)) (map address l.octets-items)
-          ≡ foldl (named servers false l.x) (marked l.own (held l.l)) (map address (drop l.octets-index l.octets-items));
+      left : foldl (named servers false l.x) (marked 0 (held l.initial.l)) (map address l.addresses)
+          ≡ foldl (named servers false l.x) (marked l.own (held l.l)) (map address (drop l.octets-index l.addresses));
     }

@@ -37,13 +37,13 @@ loop-octets-preserved c =
       | in-Some w ↦
           let f = found_place _ (held l.l) w.in-Some.k (sym w.in-Some.ensures) in
           let e = withdrawn servers server_places l.l h.list _ w.in-Some.k f.0 (w.remove.ensures ∙ without_packed server_places h.list w.in-Some.k (omega (arith, f.1, n))) in
-          let a = again c.args.l.now l.l c.named_by-octets-items.result.now l.octets-index _ c.loop-octets-test.true h.list h.clock h.left _ (w.l-is ∙ e) in
+          let a = again c.args.l.now l.l c.args.addresses.now l.octets-index _ c.loop-octets-test.true h.list h.clock h.left _ (w.l-is ∙ e) in
           record { list = a.0; clock = a.1; left = a.2 }
       | in_default w ↦
           let f = no_place _ (held l.l) (sym w.in_default.ensures) in
-          let k = address (get_or c.named_by-octets-items.result.now l.octets-index []) in
+          let k = address (get_or c.args.addresses.now l.octets-index []) in
           let e = nothing_to_withdraw servers server_places l.l h.list k (place (is_about servers k) (held l.l)) refl (omega (arith, f, n)) in
-          let a = again c.args.l.now l.l c.named_by-octets-items.result.now l.octets-index _ c.loop-octets-test.true h.list h.clock h.left _ (w.l-is ∙ e) in
+          let a = again c.args.l.now l.l c.args.addresses.now l.octets-index _ c.loop-octets-test.true h.list h.clock h.left _ (w.l-is ∙ e) in
           record { list = a.0; clock = a.1; left = a.2 }
     ]
 
@@ -51,11 +51,7 @@ pub returns : goal.returns
 returns c =
     let l = c.loop-octets in
     let h = l.invariant in
-    let items = c.named_by-octets-items.result.now in
-    let k = held c.args.l.now in
+    let items = c.args.addresses.now in
     let d : drop l.octets-index items ≡ [] = drop_of_length-le items (omega arith) in
     h.list.packs
-    ∙ rw h.clock
-    (ap (packed c.args.l.now.clock)
-    (sym (h.left ∙ ap (λ (x : List (List ℕ)). foldl (λ h a. removed servers a h) (held l.l) (map address x)) d)
-    ∙ ap (foldl (λ h a. removed servers a h) k) c.named_by-octets-items.ensures))
+    ∙ rw h.clock (ap (packed c.args.l.now.clock) (sym (h.left ∙ ap (λ (x : List (List ℕ)). foldl (λ h a. removed servers a h) (held l.l) (map address x)) d)))

@@ -12,6 +12,6 @@ invariant-loop-octets l =
     record {
       list : InPlaces server_places l.l;
       clock : l.l.clock ≡ l.initial.l.clock;
-      left : foldl (λ h a. removed servers a h) (held l.initial.l) (map address l.octets-items)
-          ≡ foldl (λ h a. removed servers a h) (held l.l) (map address (drop l.octets-index l.octets-items));
+      left : foldl (λ h a. removed servers a h) (held l.initial.l) (map address l.addresses)
+          ≡ foldl (λ h a. removed servers a h) (held l.l) (map address (drop l.octets-index l.addresses));
     }
