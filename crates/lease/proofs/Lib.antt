@@ -2,6 +2,7 @@
 pub mod FormLaws
 pub mod LeadingLaws
 pub mod KeyLaws
+pub mod ArrayLaws
 pub mod ListLaws
 pub mod OrderLaws
 pub mod ZeroLaws
