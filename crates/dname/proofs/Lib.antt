@@ -4,3 +4,4 @@ pub mod KeyLaws
 pub mod CompletionLaws
 pub mod GrammarLaws
 pub mod ReadingLaws
+pub mod PlaceLaws
