@@ -6,6 +6,7 @@ pub mod PackLaws
 pub mod FormLaws
 pub mod SoundLaws
 pub mod ChainLaws
+pub mod EightLaws
 pub mod InsertLaws
 pub mod MomentLaws
 pub mod LibraryLaws
