@@ -191,6 +191,16 @@ told_none tell [] e same = refl
 told_none tell (v ∷ []) e same = absurd (some-ne-none v e)
 told_none tell (v ∷ w ∷ us) e same = same v w us
 
--- an option that is not there has no values
-pub none_absent : (p : List ℕ) (code : ℕ) → Ok None ≡ occurrence code p → values_in code p ≡ []
-none_absent p code e = values_at p code None e
+-- the values of an option, by its occurrence: options that can't be read, none, one, or more
+module _ (p : List ℕ) (code : ℕ) where
+  pub none_faulty : Err Broken ≡ occurrence code p → values_in code p ≡ []
+  none_faulty = values_broken p code
+
+  pub none_absent : Ok None ≡ occurrence code p → values_in code p ≡ []
+  none_absent = values_at p code None
+
+  pub one : (at n : ℕ) → Ok (Some (record { at = at; len = n })) ≡ occurrence code p → (values_in code p ≡ part p at n ∷ []) × (at + n ≤ length p)
+  one at n e = (values_at p code (Some (record { at = at; len = n })) e, place_inside p code (record { at = at; len = n }) e)
+
+  pub more : Err Repeated ≡ occurrence code p → (v : List ℕ) × (w : List ℕ) × (vs : List (List ℕ)) × (values_in code p ≡ v ∷ w ∷ vs)
+  more = values_repeated p code
