@@ -1,5 +1,4 @@
-use Rattle.std.proofs.Common.{arith, ◌≤◌, length}
-use lib.Seq.{take_all}
+use Rattle.std.proofs.Common.{arith}
 use Rattle.octets.proofs.WriteLaws.{nothing}
 use Rattle.leasereply.specs.Reply.{flat}
 use Rattle.leasereply.proofs.ReplyLaws.{flat_more}
@@ -13,9 +12,3 @@ pub loop-rank-preserved : goal.loop-rank-preserved
 loop-rank-preserved c =
     let l = c.loop-rank in
     flat_more c.args.ranks.now l.rank-index (omega arith) l.invariant (rw c.low_32.ensures at c.put_u32-a.ensures)
-
-pub returns : goal.returns
-returns c =
-    let l = c.loop-rank in
-    let h : length c.args.ranks.now ≤ l.rank-index = omega arith in
-    rw (take_all l.rank-index c.args.ranks.now h) at l.invariant
