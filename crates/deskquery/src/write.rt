@@ -62,6 +62,7 @@ impl Query<'_> {
 }
 
 // The message type (53), which says that this is a lease query.
+#[tactic(auto, using(octets::proofs::WriteLaws::written))]
 fn put_type(buf: &mut [u8], at: usize) -> usize
     ensures { WroteIf buf.old at (option 53 (10 ∷ [])) buf.new result }
 {

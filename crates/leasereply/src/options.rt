@@ -16,6 +16,7 @@ use octets::write;
 const FEWEST: usize = 2;
 
 // The message type (53).
+#[tactic(auto, using(octets::proofs::WriteLaws::written))]
 pub(crate) fn put_kind(buf: &mut [u8], at: usize, kind: u8) -> usize
     ensures { WroteIf buf.old at (option 53 (kind ∷ [])) buf.new result }
 {
@@ -31,6 +32,7 @@ pub(crate) fn put_number(buf: &mut [u8], at: usize, code: u8, v: u32) -> usize
 }
 
 // A time of four octets, if it is asked for.
+#[tactic(auto, using(crate::proofs::ReplyLaws::asked_number, crate::proofs::ReplyLaws::asked_not))]
 fn put_time(buf: &mut [u8], at: usize, wanted: bool, code: u8, v: u32) -> usize
     ensures { WroteIf buf.old at (asked wanted code (big_endian 4 v)) buf.new result }
 {
@@ -80,6 +82,7 @@ pub(crate) fn put_lease(buf: &mut [u8], at: usize, clock: Moment, x: &Lease, r: 
 }
 
 // The lower four octets of a number, which are all of an address.
+#[tactic(auto, using(crate::proofs::ReplyLaws::low_octets))]
 fn low_32(v: u64) -> u32
     ensures { big_endian 4 result ≡ big_endian 4 v }
 {
