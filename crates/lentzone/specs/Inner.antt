@@ -1,5 +1,5 @@
 -- What inner functions promise. No promise of an exported call cites these.
-use Rattle.std.specs.Prelude.{◌≡◌, false, cond, ◌&&◌, List, [], ◌∷◌, ◌++◌, map, ℕ, ◌*◌, ◌≤◌, eqb, ltb, length, set, take, drop, replicate}
+use Rattle.std.specs.Prelude.{◌≡◌, false, cond, ◌&&◌, List, [], ◌∷◌, ◌++◌, map, ℕ, ◌*◌, ◌≤◌, eqb, ltb, length, set, take, drop, replicate, Option, None}
 use Rattle.octets.specs.Write.{Laid, WroteIf}
 use Rattle.addresses.specs.Addresses.{octets4, octets6, Counted}
 use Rattle.dname.specs.declared.name.Name.{Name}
@@ -21,15 +21,15 @@ pub record Looked (n : List ℕ) (e : Entry) (r : Look) : Type 0 where
 
 -- a survey of the zone that the octets hold; nothing is found where they hold none
 abbrev pub no_survey : Survey
-no_survey = record { inorder = false; distinct = false; found = 64; free = 64 }
+no_survey = record { inorder = false; distinct = false; found = None; free = None }
 
 pub record SurveyedIn (z : List ℕ) (n : List ℕ) (r : Survey) : Type 0 where
   pub surveyed : length z ≡ 23936 → Surveyed (zone_in z) n r
   pub otherwise : ¬ (length z ≡ 23936) → r ≡ no_survey
 
--- the place of a name, 64 where it is absent or the octets hold no zone
-unfoldable pub place_in : List ℕ → List ℕ → ℕ
-place_in z n = cond (eqb (length z) 23936) (place_from (named n) 0 64 (zone_in z).entries) 64
+-- the place of a name; none where it is absent or the octets hold no zone
+unfoldable pub place_in : List ℕ → List ℕ → Option ℕ
+place_in z n = cond (eqb (length z) 23936) (place_from (named n) 0 None (zone_in z).entries) None
 
 -- ---- one place read
 

@@ -19,18 +19,18 @@ fn survey_of(places: &[Row], n: &[u8]) -> Survey
     let mut fingerprints = [0u32; 64];
     let mut used: usize = 0;
     let mut inorder = true;
-    let mut found: usize = 64;
-    let mut free: usize = 64;
+    let mut found = None;
+    let mut free = None;
     for (i, e) in places.iter().enumerate() {
         if e[0] == 0 {
-            free = i;
+            free = Some(i);
             continue;
         }
         let l = look::look_at(e, fingerprint, n);
         fingerprints[used] = l.fingerprint;
         used += 1;
         inorder = survey::both(inorder, l.fine);
-        found = survey::choose(l.named, i, found);
+        found = survey::choose(l.named, Some(i), found);
     }
     let repeats = fingerprint::repeats(&fingerprints[..used]);
     let distinct = !repeats || names::are_distinct(places);
@@ -51,8 +51,8 @@ pub fn survey_in(z: &[u8], n: &[u8]) -> Survey
         None => Survey {
             inorder: false,
             distinct: false,
-            found: 64,
-            free: 64,
+            found: None,
+            free: None,
         },
     }
 }

@@ -1,6 +1,7 @@
 -- What a call's promise on a lent zone is made of. Assumes nothing.
 use mathlib.Core.Path.{◌≡◌, refl, sym, ◌∙◌, ap, subst}
 use mathlib.Core.List.{List}
+use Rattle.std.specs.Prelude.{Option as Maybe, Some}
 use Prim.Native.Nat.{ℕ, ◌<◌}
 use native.Mathlib.Decide.{ℕ_discrete}
 use native.Mathlib.Omega.{arith}
@@ -21,15 +22,16 @@ use Rattle.update.specs.Meaning.{zone_of}
 use Rattle.lentzone.specs.Decode.{zone_in}
 use Rattle.lentzone.specs.Inner.{SurveyedIn, records_at, name_at, Written}
 use Rattle.lentzone.proofs.DecodeLaws.{one_place_same}
-use Rattle.lentzone.proofs.PlaceLaws.{place_at}
+use Rattle.lentzone.proofs.PlaceLaws.{place_at as place_at_lem}
 use Rattle.request.specs.declared.answer.Answer.{Answer as Said}
+use Rattle.request.specs.declared.decide.Standing.{Standing}
 use Rattle.request.specs.declared.decide.Change.TheVariants.{Stays, Writes}
 use Rattle.request.specs.Promise.{number_of, refusal_of, Promised}
 use Rattle.request.specs.Lent.{refusal_in, answered, PromisedIn}
-use Rattle.request.specs.Inner.{Decided, Seen, Adds, Decides, Refuses}
+use Rattle.request.specs.Inner.{Decided, place_at, Seen, StandingIn, Adds, Decides, Refuses}
 use Rattle.request.specs.Answers.{means}
 use Rattle.request.proofs.PromiseLaws.{Passed, not_refused, no_place, promise_done, decided_as}
-use Rattle.request.proofs.PlaceLaws.{formed_places}
+use Rattle.request.proofs.PlaceLaws.{formed_places, found_below}
 
 module _ (z : List ℕ) (n : Octets) (family policy : ℕ) where
   pub refusal_size : ¬ (length z ≡ 23936) → 17 ≡ refusal_in z n family policy
@@ -120,21 +122,29 @@ module _ (z : List ℕ) (n : Name) (family policy : ℕ) (s : Survey) (v : Surve
   pub adds_stays : (a : Said) → Adds request s (Stays a) → Kept z (number_of (means a))
   adds_stays a d = promised_stays z (name_of n) family policy (request n) q _ (d.adds (zone_in z) n passes.form passes.name surveyed.places)
 
-  pub promised_adds : (r : Records) (after : List ℕ) → Adds request s (Writes r) → Written z s.free (place_of n r) after → Kept after 0
-  promised_adds r after d t = promised_done z (name_of n) family policy (request n) q 0 s.free (place_of n r) after (d.adds (zone_in z) n passes.form passes.name surveyed.places) t
+  pub promised_adds : (p : ℕ) (r : Records) (after : List ℕ) → Adds request s (Writes p r) → Written z p (place_of n r) after → Kept after 0
+  promised_adds p r after d t = promised_done z (name_of n) family policy (request n) q 0 p (place_of n r) after (d.adds (zone_in z) n passes.form passes.name surveyed.places).1 t
 
   -- ---- any other
-  module _ (e : Records) (f : e ≡ records_at z s.found) where
-    seen : Seen (zone_in z) n blank s e
-    seen = record { form = passes.form; found = surveyed.places; records_is = λ h. f ∙ ap records_of (place_at z s.found size h blank) }
+  module _ (o : Maybe Standing) (f : StandingIn z s.found o) where
+    -- a place found is one of the 64
+    inside : (p : ℕ) → place_at o ≡ Some p → p < 64
+    inside p h = found_below (zone_in z) passes.form (name_of n) blank p (sym (f.0 ∙ surveyed.places.found_is) ∙ h)
 
-    pub decides_stays : (a : Said) → Decides request s e (Stays a) → Kept z (number_of (means a))
+    seen : Seen (zone_in z) n blank o
+    seen = record {
+      form = passes.form;
+      found_is = f.0 ∙ surveyed.places.found_is;
+      records_is = λ t h. f.1 t h ∙ ap records_of (place_at_lem z t.place size (inside t.place (ap place_at h)) blank);
+    }
+
+    pub decides_stays : (a : Said) → Decides request o (Stays a) → Kept z (number_of (means a))
     decides_stays a d = promised_stays z (name_of n) family policy (request n) q _ (d.decides (zone_in z) n blank seen)
 
-    pub promised_decides : (r : Records) (after : List ℕ) → Decides request s e (Writes r) → Written z s.found (place_of (name_at z s.found) r) after → Kept after 0
-    promised_decides r after d t =
-        promised_done z (name_of n) family policy (request n) q 0 s.found (place_of (name_at z s.found) r) after
-        (decided_as (place_of (get_or (zone_in z).entries s.found blank).name r) (place_of (name_at z s.found) r)
-        (λ h. ap (λ (x : Entry). place_of x.name r) (sym (place_at z s.found size h blank)))
-        (d.decides (zone_in z) n blank seen))
+    pub promised_decides : (p : ℕ) (r : Records) (after : List ℕ) → Decides request o (Writes p r) → Written z p (place_of (name_at z p) r) after → Kept after 0
+    promised_decides p r after d t =
+        promised_done z (name_of n) family policy (request n) q 0 p (place_of (name_at z p) r) after
+        (decided_as (place_of (get_or (zone_in z).entries p blank).name r) (place_of (name_at z p) r)
+        (λ h. ap (λ (x : Entry). place_of x.name r) (sym (place_at_lem z p size h blank)))
+        (d.decides (zone_in z) n blank seen).1)
         t

@@ -3,6 +3,7 @@ use mathlib.Core.Path.{◌≡◌, refl, sym, ◌∙◌, ap, subst}
 use mathlib.Core.Bool.{Bool, true, false, cond, not, ◌&&◌, ◌||◌, or-true, true≢false}
 use mathlib.Core.List.{List, [], ◌∷◌, map}
 use mathlib.Core.Option.{Option, none, some}
+use Rattle.std.specs.Prelude.{Option as Maybe, Some, None as Nothing}
 use Prim.Native.Nat.{ℕ, zero, suc, ◌+◌, ◌≤◌, ◌<◌, zero-le, suc-le-suc}
 use native.Mathlib.Omega.{arith}
 use lib.Dec.{eqb}
@@ -27,6 +28,7 @@ use Rattle.update.specs.Meaning.{list_of, host_of, zone_of}
 use Rattle.update.specs.Spelling.{spelling_of, kept}
 use Rattle.request.specs.Inner.{Spells}
 use Rattle.zone.specs.Survey.{named, place_from}
+use Rattle.zone.proofs.SurveyLaws.{blank}
 use Rattle.request.proofs.HostLaws.{order_parts}
 use Rattle.update.proofs.ZoneLaws.{put, put_has, some≢none, zone_eq, named_put, put_size}
 
@@ -295,36 +297,38 @@ abbrev pub None : {A : Type 0} → (A → Bool) → List A → Type 0
 None p [] = Unit
 None p (x ∷ l) = (p x ≡ false) × None p l
 
-data Place {A : Type 0} (p : A → Bool) (b : A) (i otherwise : ℕ) (l : List A) (r : ℕ) : Type 0 where
-  here : (at : ℕ) → r ≡ i + at → at < length l → p (get_or l at b) ≡ true → Place p b i otherwise l r
+data Place {A : Type 0} (p : A → Bool) (b : A) (i : ℕ) (otherwise : Maybe ℕ) (l : List A) (r : Maybe ℕ) : Type 0 where
+  here : (at : ℕ) → r ≡ Some (i + at) → at < length l → p (get_or l at b) ≡ true → Place p b i otherwise l r
   nowhere : r ≡ otherwise → None p l → Place p b i otherwise l r
 
-place : {A : Type 0} (p : A → Bool) (b : A) (i otherwise : ℕ) (l : List A) → Place p b i otherwise l (place_from p i otherwise l)
+place : {A : Type 0} (p : A → Bool) (b : A) (i : ℕ) (otherwise : Maybe ℕ) (l : List A) → Place p b i otherwise l (place_from p i otherwise l)
 unfolding place_from
 place p b i otherwise [] = nowhere refl tt
-place p b i otherwise (x ∷ l) = go (p x) refl (place p b (suc i) (cond (p x) i otherwise) l)
+place p b i otherwise (x ∷ l) = go (p x) refl (place p b (suc i) (cond (p x) (Some i) otherwise) l)
   where
-    next : ℕ
-    next = place_from p (suc i) (cond (p x) i otherwise) l
+    next : Maybe ℕ
+    next = place_from p (suc i) (cond (p x) (Some i) otherwise) l
 
-    go : (c : Bool) → p x ≡ c → Place p b (suc i) (cond (p x) i otherwise) l next → Place p b i otherwise (x ∷ l) next
-    go c q (here at e h t) = here (suc at) (omega arith) (omega arith) t
-    go true q (nowhere e n) = here 0 (e ∙ (rw q (omega arith))) (omega arith) q
+    go : (c : Bool) → p x ≡ c → Place p b (suc i) (cond (p x) (Some i) otherwise) l next → Place p b i otherwise (x ∷ l) next
+    go c q (here at e h t) = let m : suc i + at ≡ i + suc at = omega arith in here (suc at) (e ∙ ap Some m) (omega arith) t
+    go true q (nowhere e n) = let m : i ≡ i + 0 = omega arith in here 0 (e ∙ (rw q (ap Some m))) (omega arith) q
     go false q (nowhere e n) = nowhere (e ∙ rw q) (q, n)
 
-module _ {A : Type 0} (p : A → Bool) (b : A) (l : List A) (r : ℕ) (w : r ≡ place_from p 0 64 l) where
-  pub here_at : r < 64 → (r < length l) × (p (get_or l r b) ≡ true)
-  here_at h = go (place p b 0 64 l)
+module _ {A : Type 0} (p : A → Bool) (b : A) (l : List A) where
+  pub here_at : (r : ℕ) → place_from p 0 Nothing l ≡ Some r → (r < length l) × (p (get_or l r b) ≡ true)
+  here_at r w = go (place p b 0 Nothing l)
     where
-      go : Place p b 0 64 l (place_from p 0 64 l) → (r < length l) × (p (get_or l r b) ≡ true)
-      go (here at e k t) = let q : r ≡ at = omega arith in (omega arith, ap (λ (i : ℕ). p (get_or l i b)) q ∙ t)
-      go (nowhere e n) = absurd (omega arith)
+      go : Place p b 0 Nothing l (place_from p 0 Nothing l) → (r < length l) × (p (get_or l r b) ≡ true)
+      go (here at e k t) =
+          let m : r ≡ 0 + at = cc in
+          let q : r ≡ at = omega arith in (omega arith, ap (λ (i : ℕ). p (get_or l i b)) q ∙ t)
+      go (nowhere e n) = absurd (cc)
 
-  pub here_none : length l ≡ 64 → ¬ (r < 64) → None p l
-  here_none m h = go (place p b 0 64 l)
+  pub here_none : place_from p 0 Nothing l ≡ Nothing → None p l
+  here_none w = go (place p b 0 Nothing l)
     where
-      go : Place p b 0 64 l (place_from p 0 64 l) → None p l
-      go (here at e k t) = absurd (h (omega arith))
+      go : Place p b 0 Nothing l (place_from p 0 Nothing l) → None p l
+      go (here at e k t) = absurd (cc)
       go (nowhere e n) = n
 
 none_member : (n : Octets) (es : List Entry) → None (named n) es → member (key n) (keys es) ≡ false
@@ -381,53 +385,51 @@ module _ (z : Zone) (g : formed z ≡ true) (n : Octets) (b : Entry) (r : ℕ) w
           go (yes q) false u t = absurd (some≢none (sym (rw (same_yes (key n) m q, u) at t)))
           go (no q) b u t = sym (ap (kept n) (rw (same_no (key n) m q) at t))
 
-  module _ (w : r ≡ place_from (named n) 0 64 z.entries) where
-    module _ (h : r < 64) where
-      abbrev it : Entry
-      it = get_or z.entries r b
+  module _ (w : place_from (named n) 0 Nothing z.entries ≡ Some r) where
+    pub found_below : r < 64
+    found_below = let h = here_at (named n) b z.entries r w in let m = l in omega arith
 
-      hit : (used it && same_octets (key_of it) (key n)) ≡ true
-      hit = unfold named same_name in (here_at (named n) b z.entries r w h).1
+    abbrev it : Entry
+    it = get_or z.entries r b
 
-      alone : Alone r (key n) z.entries
-      alone = alone_found z.entries r b (key n) (here_at (named n) b z.entries r w h).0 hit (formed_names z g)
+    hit : (used it && same_octets (key_of it) (key n)) ≡ true
+    hit = unfold named same_name in (here_at (named n) b z.entries r w).1
 
-      pub found_used : used it ≡ true
-      found_used = and_left (used it) (same_octets (key_of it) (key n)) hit
+    alone : Alone r (key n) z.entries
+    alone = alone_found z.entries r b (key n) (here_at (named n) b z.entries r w).0 hit (formed_names z g)
 
-      pub found_order : in_order it ≡ true
-      found_order = order_at z.entries r b (here_at (named n) b z.entries r w h).0 found_used (formed_order z g)
+    pub found_used : used it ≡ true
+    found_used = and_left (used it) (same_octets (key_of it) (key n)) hit
 
-      pub found_host : (zone_of z).at (key n) ≡ some (host_of it)
-      unfolding zone_of
-      found_host = with_found host_of z.entries r b (key n) (here_at (named n) b z.entries r w h).0 alone hit
+    pub found_order : in_order it ≡ true
+    found_order = order_at z.entries r b (here_at (named n) b z.entries r w).0 found_used (formed_order z g)
 
-      found_spelled : spelling_of z (key n) ≡ some (name_of it.name)
-      unfolding spelling_of
-      found_spelled = with_found spells_as z.entries r b (key n) (here_at (named n) b z.entries r w h).0 alone hit
-
-      found_key : key_of it ≡ key n
-      found_key = same_true (key_of it) (key n) (and_right (used it) (same_octets (key_of it) (key n)) hit)
-
-      -- the host changed: an entry of the same kind and name
-      pub found_changed : (d : Entry) → d.kind ≡ it.kind → d.name ≡ it.name → in_order d ≡ true
-          → (formed (wrote d) ≡ true) × (zone_of (wrote d) ≡ put n (some (host_of d)) (zone_of z)) × Spells n z (wrote d)
-      found_changed d k m o =
-          let t : used d ≡ used it = unfold used in rw k refl in
-          let u : used d ≡ true = t ∙ found_used in
-          let e = written d (here_at (named n) b z.entries r w h).0 alone (λ t. ap (λ (x : Name). key (name_of x)) m ∙ found_key) (λ t. o) (λ t. ap name_of m ∙ ap (kept n) (sym found_spelled)) in
-          (e.0, e.1 ∙ ap (λ (v : Bool). put n (cond v (some (host_of d)) none) (zone_of z)) u, e.2)
-
-      -- the place freed
-      pub found_freed : (d : Entry) → d.kind ≡ 0 → (formed (wrote d) ≡ true) × (zone_of (wrote d) ≡ put n none (zone_of z)) × Spells n z (wrote d)
-      found_freed d k =
-          let u : used d ≡ false = unfold used in rw k refl in
-          let e = written d (here_at (named n) b z.entries r w h).0 alone (λ t. absurd (true≢false (sym t ∙ u))) (λ t. absurd (true≢false (sym t ∙ u))) (λ t. absurd (true≢false (sym t ∙ u))) in
-          (e.0, e.1 ∙ ap (λ (v : Bool). put n (cond v (some (host_of d)) none) (zone_of z)) u, e.2)
-
-    pub not_found : ¬ (r < 64) → (zone_of z).at (key n) ≡ none
+    pub found_host : (zone_of z).at (key n) ≡ some (host_of it)
     unfolding zone_of
-    not_found h = with_absent host_of z.entries (key n) (none_member n z.entries (here_none (named n) b z.entries r w l h))
+    found_host = with_found host_of z.entries r b (key n) (here_at (named n) b z.entries r w).0 alone hit
+
+    found_spelled : spelling_of z (key n) ≡ some (name_of it.name)
+    unfolding spelling_of
+    found_spelled = with_found spells_as z.entries r b (key n) (here_at (named n) b z.entries r w).0 alone hit
+
+    found_key : key_of it ≡ key n
+    found_key = same_true (key_of it) (key n) (and_right (used it) (same_octets (key_of it) (key n)) hit)
+
+    -- the host changed: an entry of the same kind and name
+    pub found_changed : (d : Entry) → d.kind ≡ it.kind → d.name ≡ it.name → in_order d ≡ true
+        → (formed (wrote d) ≡ true) × (zone_of (wrote d) ≡ put n (some (host_of d)) (zone_of z)) × Spells n z (wrote d)
+    found_changed d k m o =
+        let t : used d ≡ used it = unfold used in rw k refl in
+        let u : used d ≡ true = t ∙ found_used in
+        let e = written d (here_at (named n) b z.entries r w).0 alone (λ t. ap (λ (x : Name). key (name_of x)) m ∙ found_key) (λ t. o) (λ t. ap name_of m ∙ ap (kept n) (sym found_spelled)) in
+        (e.0, e.1 ∙ ap (λ (v : Bool). put n (cond v (some (host_of d)) none) (zone_of z)) u, e.2)
+
+    -- the place freed
+    pub found_freed : (d : Entry) → d.kind ≡ 0 → (formed (wrote d) ≡ true) × (zone_of (wrote d) ≡ put n none (zone_of z)) × Spells n z (wrote d)
+    found_freed d k =
+        let u : used d ≡ false = unfold used in rw k refl in
+        let e = written d (here_at (named n) b z.entries r w).0 alone (λ t. absurd (true≢false (sym t ∙ u))) (λ t. absurd (true≢false (sym t ∙ u))) (λ t. absurd (true≢false (sym t ∙ u))) in
+        (e.0, e.1 ∙ ap (λ (v : Bool). put n (cond v (some (host_of d)) none) (zone_of z)) u, e.2)
 
   -- a name that does not stand
   absent_member : (zone_of z).at (key n) ≡ none → member (key n) (keys z.entries) ≡ false
@@ -439,25 +441,34 @@ module _ (z : Zone) (g : formed z ≡ true) (n : Octets) (b : Entry) (r : ℕ) w
   absent_spelled c = with_absent spells_as z.entries (key n) c
 
   -- a free place
-  module _ (w : r ≡ place_from (λ (e : Entry). not (used e)) 0 64 z.entries) where
-    pub free_written : r < 64 → (zone_of z).at (key n) ≡ none → (d : Entry) → used d ≡ true → name_of d.name ≡ n → in_order d ≡ true
+  module _ (w : place_from (λ (e : Entry). not (used e)) 0 Nothing z.entries ≡ Some r) where
+    pub free_below : r < 64
+    free_below = let h = here_at (λ (e : Entry). not (used e)) b z.entries r w in let m = l in omega arith
+
+    pub free_written : (zone_of z).at (key n) ≡ none → (d : Entry) → used d ≡ true → name_of d.name ≡ n → in_order d ≡ true
         → (formed (wrote d) ≡ true) × (zone_of (wrote d) ≡ put n (some (host_of d)) (zone_of z)) × Spells n z (wrote d)
-    free_written h q d u k o =
-        let p = here_at (λ (e : Entry). not (used e)) b z.entries r w h in
+    free_written q d u k o =
+        let p = here_at (λ (e : Entry). not (used e)) b z.entries r w in
         let c = absent_member q in
         let a = alone_free z.entries r b (key n) p.0 (not-true _ p.1) c in
         let e = written d p.0 a (λ t. ap key k) (λ t. o) (λ t. k ∙ ap (kept n) (sym (absent_spelled c))) in
         (e.0, e.1 ∙ ap (λ (v : Bool). put n (cond v (some (host_of d)) none) (zone_of z)) u, e.2)
 
-    pub free_room : r < 64 → (zone_of z).at (key n) ≡ none → (d : Entry) → used d ≡ true → name_of d.name ≡ n → in_order d ≡ true → (zone_of z).size < 64
-    free_room h q d u k o =
-        let e = free_written h q d u k o in
+    pub free_room : (zone_of z).at (key n) ≡ none → (d : Entry) → used d ≡ true → name_of d.name ≡ n → in_order d ≡ true → (zone_of z).size < 64
+    free_room q d u k o =
+        let e = free_written q d u k o in
         let c : (zone_of (wrote d)).size ≤ 64 = (form_of (wrote d) e.0).few in
         let s : (zone_of (wrote d)).size ≡ (zone_of z).size + 1 = ap (λ (x : rules.Zone). x.size) e.1 ∙ put_size n (some (host_of d)) (zone_of z) ∙ rw q (omega arith) in
         omega arith
 
-    pub no_room_lem : ¬ (r < 64) → 64 ≤ (zone_of z).size
-    unfolding zone_of
-    no_room_lem h =
-        let m : length z.entries ≡ 64 = l in
-        let e = all_used z.entries (here_none (λ (x : Entry). not (used x)) b z.entries r w l h) in omega arith
+-- nothing is found: the name does not stand, or no place is free
+module _ (z : Zone) (g : formed z ≡ true) where
+  pub not_found : (n : Octets) → place_from (named n) 0 Nothing z.entries ≡ Nothing → (zone_of z).at (key n) ≡ none
+  unfolding zone_of
+  not_found n w = with_absent host_of z.entries (key n) (none_member n z.entries (here_none (named n) blank z.entries w))
+
+  pub no_room_lem : place_from (λ (e : Entry). not (used e)) 0 Nothing z.entries ≡ Nothing → 64 ≤ (zone_of z).size
+  unfolding zone_of
+  no_room_lem w =
+      let m : length z.entries ≡ 64 = formed_places z g in
+      let e = all_used z.entries (here_none (λ (x : Entry). not (used x)) blank z.entries w) in omega arith

@@ -2,6 +2,7 @@
 use mathlib.Core.Path.{◌≡◌, refl, sym, ◌∙◌, ap, subst}
 use mathlib.Core.Bool.{Bool, true, false, cond, ◌&&◌}
 use mathlib.Core.List.{List}
+use Rattle.std.specs.Prelude.{Option as Maybe, Some, None as Nothing}
 use Prim.Native.Nat.{ℕ, ◌≤◌, ◌<◌}
 use native.Mathlib.Omega.{arith}
 use lib.Dec.{ltb}
@@ -15,6 +16,7 @@ use Rattle.zone.specs.declared.entry.Entry.{Entry}
 use Rattle.zone.specs.declared.entry.Records.{Records}
 use Rattle.zone.specs.declared.Zone.{Zone}
 use Rattle.zone.specs.declared.survey.Visit.{Visit}
+use Rattle.request.specs.declared.decide.Standing.{Standing}
 use Rattle.request.specs.declared.decide.Change.{Change}
 use Rattle.request.specs.declared.decide.Change.TheVariants.{Stays, Writes}
 use Rattle.update.specs.Rules as rules
@@ -28,7 +30,7 @@ use Rattle.zone.specs.declared.survey.Survey.{Survey}
 use Rattle.zone.specs.Survey.{Surveyed, Visited, place_of, records_of}
 use Rattle.zone.proofs.SurveyLaws.{blank}
 use Rattle.request.specs.Answers.{means}
-use Rattle.request.specs.Inner.{written, settled, Settles, Spells, Decided, Changes, Adds, Decides}
+use Rattle.request.specs.Inner.{written, settled, place_at, standing, Settles, Spells, Decided, Changes, Adds, Seen, Decides}
 use Rattle.request.proofs.PlaceLaws.{formed_places}
 use Rattle.request.proofs.SpellingLaws.{spells_same, spelled_by}
 
@@ -153,15 +155,19 @@ module _ (z : Zone) (n : Octets) (family policy : ℕ) (request : rules.Zone →
           let h : ¬ (place < 64) = λ q. omega arith in
           (ap zone_of (same g h) ∙ c.stays h, ap formed (same g h) ∙ g, spells_same n z (written z place e) (ap spelling_of (same g h)))
 
-  -- a change at a place, under the name that is to stand there
-  pub promise_changed : (place : ℕ) (name : Name) (w : Change) → refusal ≡ 0 → Changes n z (request (zone_of z)) place name w → Settles request z n family policy (settled z place name w)
-  promise_changed place name (Stays a) r c =
+  -- a change under the name that is to stand at its place
+  pub promise_changed : (at : Maybe ℕ) (name : Name) (w : Change) → refusal ≡ 0 → Changes n z (request (zone_of z)) at (λ p. name) w → Settles request z n family policy (settled z name w)
+  promise_changed at name (Stays a) r c =
       let g : formed z ≡ true = (not_refused z n family policy r).form in
       subst (λ (x : Zone). Promised z n refusal (request (zone_of z)) (record { refusal = 0; answer = number_of (means a); zone = x })) (no_place z 64 blank (formed_places z g) (omega arith))
       (promise_done (number_of (means a)) 64 blank r (c blank))
-  promise_changed place name (Writes f) r c = promise_done 0 place (place_of name f) r c
+  promise_changed at name (Writes place f) r c = promise_done 0 place (place_of name f) r c.1
 
 -- ---- decisions on what was visited
+
+placed : (p : Maybe ℕ) (e : Records) → place_at (standing p e) ≡ p
+placed Nothing e = refl
+placed (Some p) e = refl
 
 -- an entry that is written nowhere may be any
 pub decided_as : {n : Octets} {z : Zone} {right : Outcome} {answer place : ℕ} (e f : Entry) → (place < 64 → e ≡ f) → Decided n z right answer place e → Decided n z right answer place f
@@ -176,16 +182,31 @@ module _ (z : Zone) (n : Name) (family policy : ℕ) (v : Visit) (q : refusal_of
   passes : Passed z (name_of n) family policy
   passes = not_refused z (name_of n) family policy q
 
-  pub comes_adds : Adds request v.survey w → Settles (request n) z (name_of n) family policy (settled z v.survey.free n w)
+  pub comes_adds : Adds request v.survey w → Settles (request n) z (name_of n) family policy (settled z n w)
   comes_adds d = promise_changed z (name_of n) family policy (request n) v.survey.free n w q (d.adds z n passes.form passes.name t.surveyed.places)
 
-  pub comes_decides : (e : Records) → e ≡ records_of v.entry → Decides request v.survey e w → Settles (request n) z (name_of n) family policy (settled z v.survey.found v.entry.name w)
-  comes_decides e f d =
-      promise_changed z (name_of n) family policy (request n) v.survey.found v.entry.name w q
-      (stays_named w (d.decides z n v.entry (record { form = passes.form; found = t.surveyed.places; records_is = λ h. f ∙ ap records_of (t.entry_is v.entry h) })))
-    where
-      -- the name that stands at the place found is the one visited
-      stays_named : (x : Change) → Changes (name_of n) z (request n (zone_of z)) v.survey.found (get_or z.entries v.survey.found v.entry).name x
-          → Changes (name_of n) z (request n (zone_of z)) v.survey.found v.entry.name x
-      stays_named (Stays a) c = c
-      stays_named (Writes r) c = decided_as _ _ (λ h. ap (λ (y : Entry). place_of y.name r) (sym (t.entry_is v.entry h))) c
+  module _ (e : Records) (f : e ≡ records_of v.entry) where
+    abbrev o : Maybe Standing
+    o = standing v.survey.found e
+
+    -- what stands at the place found is what was visited
+    seen : Seen z n v.entry o
+    seen = record { form = passes.form; found_is = placed v.survey.found e ∙ t.surveyed.places.found_is; records_is = λ s h. go v.survey.found refl s h }
+      where
+        go : (p : Maybe ℕ) → v.survey.found ≡ p → (s : Standing) → standing p e ≡ Some s → s.records ≡ records_of (get_or z.entries s.place v.entry)
+        go Nothing k s h = absurd (cc)
+        go (Some p) k s h =
+            let m : ◌≡◌ {A = Standing} (record { place = p; records = e }) s = cc in
+            subst (λ (x : Standing). x.records ≡ records_of (get_or z.entries x.place v.entry)) m (f ∙ ap records_of (t.entry_is v.entry p k))
+
+    pub comes_decides : (s : Maybe Standing) → s ≡ o → Decides request s w → Settles (request n) z (name_of n) family policy (settled z v.entry.name w)
+    comes_decides s i d =
+        promise_changed z (name_of n) family policy (request n) (place_at o) v.entry.name w q (stays_named w ((subst (λ (x : Maybe Standing). Decides request x w) i d).decides z n v.entry seen))
+      where
+        -- the name that stands at the place found is the one visited
+        stays_named : (x : Change) → Changes (name_of n) z (request n (zone_of z)) (place_at o) (λ p. (get_or z.entries p v.entry).name) x
+            → Changes (name_of n) z (request n (zone_of z)) (place_at o) (λ p. v.entry.name) x
+        stays_named (Stays a) c = c
+        stays_named (Writes p r) c =
+            let k : v.survey.found ≡ Some p = sym (placed v.survey.found e) ∙ c.0 in
+            (c.0, decided_as _ _ (λ h. ap (λ (y : Entry). place_of y.name r) (sym (t.entry_is v.entry p k))) c.1)

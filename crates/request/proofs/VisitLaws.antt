@@ -2,6 +2,7 @@
 use mathlib.Core.Path.{◌≡◌, sym, ◌∙◌, ap, subst}
 use mathlib.Core.Bool.{Bool, true, false, cond, ◌&&◌}
 use mathlib.Core.List.{List}
+use Rattle.std.specs.Prelude.{Option as Maybe}
 use Prim.Native.Nat.{ℕ}
 use lib.Dec.{eqb}
 use lib.ListN.{length}
@@ -71,16 +72,16 @@ module _ (z : List ℕ) (n : Octets) (family policy : ℕ) (request : rules.Zone
 -- ---- what was visited
 
 -- a change on what was visited, at a place and under a name: right for every zone in form that the visit is of, if the name is full
-pub record Comes (request : rules.Zone → Outcome) (n : Octets) (v : Visit) (place : ℕ) (name : Name) (w : Change) : Type 0 where
-  pub comes : (z : Zone) → formed z ≡ true → is_full n ≡ true → Visited z n v → Changes n z (request (zone_of z)) place name w
+pub record Comes (request : rules.Zone → Outcome) (n : Octets) (v : Visit) (place : Maybe ℕ) (name : Name) (w : Change) : Type 0 where
+  pub comes : (z : Zone) → formed z ≡ true → is_full n ≡ true → Visited z n v → Changes n z (request (zone_of z)) place (λ p. name) w
 
 -- a request that adds a name comes to its change at the free place
 pub visit_adds : (request : Name → rules.Zone → Outcome) (n : Name) (v : Visit) (w : Change) → Adds request v.survey w → Comes (request n) (name_of n) v v.survey.free n w
 visit_adds request n v w d = record { comes = λ z g m t. d.adds z n g m t.surveyed.places }
 
 -- and what it comes to is what is promised of the zone that was visited
-pub promise_visited : (z : Zone) (n : Octets) (family policy : ℕ) (request : rules.Zone → Outcome) (k : ℕ) (v : Visit) (place : ℕ) (name : Name) (w : Change) → k ≡ refusal_of z n family policy → k ≡ 0
-    → Visited z n v → Comes request n v place name w → Promised z n (refusal_of z n family policy) (request (zone_of z)) (settled z place name w)
+pub promise_visited : (z : Zone) (n : Octets) (family policy : ℕ) (request : rules.Zone → Outcome) (k : ℕ) (v : Visit) (place : Maybe ℕ) (name : Name) (w : Change) → k ≡ refusal_of z n family policy → k ≡ 0
+    → Visited z n v → Comes request n v place name w → Promised z n (refusal_of z n family policy) (request (zone_of z)) (settled z name w)
 promise_visited z n family policy request k v place name w p q t d =
     let o = not_refused z n family policy (sym p ∙ q) in
     promise_changed z n family policy request place name w (sym p ∙ q) (d.comes z o.form o.name t)

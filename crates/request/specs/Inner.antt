@@ -1,5 +1,5 @@
 -- What inner functions decide, on a survey of the zone. No promise of an exported call cites these.
-use Rattle.std.specs.Prelude.{◌≡◌, List, Bool, true, false, ◌&&◌, ℕ, ◌+◌, ◌<◌, eqb, get_or, set, Result, Ok}
+use Rattle.std.specs.Prelude.{◌≡◌, List, Bool, true, false, ◌&&◌, ℕ, ◌+◌, ◌<◌, eqb, get_or, set, Option as Maybe, Some, None, Result, Ok}
 use Rattle.std.proofs.Math.Option.{some}
 use Rattle.octets.specs.Count.{Octets}
 use Rattle.addresses.specs.Addresses.{Family, four, six, nothing}
@@ -13,9 +13,10 @@ use Rattle.zone.specs.declared.survey.Survey.{Survey}
 use Rattle.zone.specs.declared.survey.Visit.{Visit}
 use Rattle.dname.specs.Name.{name_of, is_full}
 use Rattle.zone.specs.Meaning.{in_order, formed}
-use Rattle.zone.specs.Survey.{Found, Surveyed, Visited, place_of, records_of}
+use Rattle.zone.specs.Survey.{Found, Surveyed, Visited, named, place_from, place_of, records_of}
 use Rattle.request.specs.declared.decide.Change.{Change}
 use Rattle.request.specs.declared.decide.Change.TheVariants.{Stays, Writes}
+use Rattle.request.specs.declared.decide.Standing.{Standing}
 use Rattle.request.specs.declared.decide.Update.{Update as Sent}
 use Rattle.request.specs.declared.refusal.Refusal.{Refusal}
 use Rattle.request.specs.declared.Answered.{Answered}
@@ -25,7 +26,7 @@ use Rattle.update.specs.Meaning.{host_of, zone_of, family_of, policy_of, address
 use Rattle.update.specs.Spelling.{spelling_of, kept}
 use Rattle.request.specs.Answers.{means, refusal_number, refused}
 use Rattle.request.specs.Promise.{number_of, refusal_of, Promised}
-use Rattle.lentzone.specs.Inner.{SurveyedIn}
+use Rattle.lentzone.specs.Inner.{SurveyedIn, records_at}
 use Rattle.request.specs.declared.answer.Answer.{Answer as Said}
 use Rattle.request.specs.declared.lent.RequestAnswer.{RequestAnswer}
 use Rattle.request.specs.Lent.{refusal_in}
@@ -53,9 +54,9 @@ written z place e = record { entries = set z.entries place e }
 abbrev pub refused_zone : Zone → Refusal → Answered
 refused_zone z r = record { refusal = refusal_number r; answer = 0; zone = z }
 
-abbrev pub settled : Zone → ℕ → Name → Change → Answered
-settled z place n (Stays a) = record { refusal = 0; answer = number_of (means a); zone = z }
-settled z place n (Writes r) = record { refusal = 0; answer = 0; zone = written z place (place_of n r) }
+abbrev pub settled : Zone → Name → Change → Answered
+settled z n (Stays a) = record { refusal = 0; answer = number_of (means a); zone = z }
+settled z n (Writes place r) = record { refusal = 0; answer = 0; zone = written z place (place_of n r) }
 
 -- what is promised of a request by value
 abbrev pub Settles : (rules.Zone → Outcome) → Zone → Octets → ℕ → ℕ → Answered → Type 0
@@ -72,32 +73,43 @@ pub record Decided (n : Octets) (z : Zone) (right : Outcome) (answer place : ℕ
   pub writes : place < 64 → (formed (written z place e) ≡ true) × (zone_of (written z place e) ≡ right.zone) × Spells n z (written z place e)
   pub needed : place < 64 → ¬ (right.zone ≡ zone_of z)
 
--- the same of a change at a place, under the name that is to stand there; one that writes nothing is one at no place, with any entry
-abbrev pub Changes : Octets → Zone → Outcome → ℕ → Name → Change → Type 0
-Changes n z right place name (Stays a) = (e : Entry) → Decided n z right (number_of (means a)) 64 e
-Changes n z right place name (Writes r) = Decided n z right 0 place (place_of name r)
+-- the same of a change, which writes at the place given, under the name that is to stand there; one that writes nothing is one at no place,
+-- with any entry
+abbrev pub Changes : Octets → Zone → Outcome → Maybe ℕ → (ℕ → Name) → Change → Type 0
+Changes n z right at name (Stays a) = (e : Entry) → Decided n z right (number_of (means a)) 64 e
+Changes n z right at name (Writes place r) = (at ≡ Some place) × Decided n z right 0 place (place_of (name place) r)
 
 -- a request that adds a name, decided on a survey: right at every full name and for every zone in form that the survey is of, if that
 -- name is written with the records at the free place
 pub record Adds (request : Name → rules.Zone → Outcome) (s : Survey) (w : Change) : Type 0 where
   pub adds : (z : Zone) (n : Name) → formed z ≡ true → is_full (name_of n) ≡ true → Found z (name_of n) s
-      → Changes (name_of n) z (request n (zone_of z)) s.free n w
+      → Changes (name_of n) z (request n (zone_of z)) s.free (λ p. n) w
 
--- the survey is of a zone in form and of the name n, and e is what stands at the place found (b stands for places past the end)
-pub record Seen (z : Zone) (n : Name) (b : Entry) (s : Survey) (e : Records) : Type 0 where
+-- where something stands
+abbrev pub place_at : Maybe Standing → Maybe ℕ
+place_at None = None
+place_at (Some t) = Some t.place
+
+-- these records at the place, if there is one
+abbrev pub standing : Maybe ℕ → Records → Maybe Standing
+standing None e = None
+standing (Some place) e = Some (record { place = place; records = e })
+
+-- the zone is in form, and o is what stands at the name n in it (b stands for places past the end)
+pub record Seen (z : Zone) (n : Name) (b : Entry) (o : Maybe Standing) : Type 0 where
   pub form : formed z ≡ true
-  pub found : Found z (name_of n) s
-  pub records_is : s.found < 64 → e ≡ records_of (get_or z.entries s.found b)
+  pub found_is : place_at o ≡ place_from (named (name_of n)) 0 None z.entries
+  pub records_is : (t : Standing) → o ≡ Some t → t.records ≡ records_of (get_or z.entries t.place b)
 
--- any other request, decided on a survey and on what stands at the place found: right wherever these are seen, if the records are written
--- at the place found and the name stays that stands there
-pub record Decides (request : Name → rules.Zone → Outcome) (s : Survey) (e : Records) (w : Change) : Type 0 where
-  pub decides : (z : Zone) (n : Name) (b : Entry) → Seen z n b s e
-      → Changes (name_of n) z (request n (zone_of z)) s.found (get_or z.entries s.found b).name w
+-- any other request, decided on what stands at the name: right wherever this is seen, if the records are written at its place and the name
+-- stays that stands there
+pub record Decides (request : Name → rules.Zone → Outcome) (o : Maybe Standing) (w : Change) : Type 0 where
+  pub decides : (z : Zone) (n : Name) (b : Entry) → Seen z n b o
+      → Changes (name_of n) z (request n (zone_of z)) (place_at o) (λ p. (get_or z.entries p b).name) w
 
 -- what a function that decides promises of each call, its own promise being that one
-abbrev pub Follows : (Survey → Records → Change → Type 0) → (Name → rules.Zone → Outcome) → Type 0
-Follows own request = (s : Survey) (e : Records) (w : Change) → own s e w → Decides request s e w
+abbrev pub Follows : (Maybe Standing → Change → Type 0) → (Name → rules.Zone → Outcome) → Type 0
+Follows own request = (o : Maybe Standing) (w : Change) → own o w → Decides request o w
 
 -- ---- on a zone that is lent
 
@@ -105,6 +117,10 @@ Follows own request = (s : Survey) (e : Records) (w : Change) → own s e w → 
 pub record Surveys (z : List ℕ) (n : Octets) (family policy : ℕ) (r : Result Survey Refusal) : Type 0 where
   pub refusal_is : refused r ≡ refusal_in z n family policy
   pub surveyed : (s : Survey) → r ≡ Ok s → SurveyedIn z n s
+
+-- what stands at a place
+abbrev pub StandingIn : List ℕ → Maybe ℕ → Maybe Standing → Type 0
+StandingIn z place o = (place_at o ≡ place) × ((t : Standing) → o ≡ Some t → t.records ≡ records_at z t.place)
 
 abbrev pub refused_by : Refusal → RequestAnswer
 refused_by r = record { refusal = refusal_number r; answer = 0 }

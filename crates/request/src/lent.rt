@@ -6,15 +6,15 @@ ghost use Rattle.dname.specs.declared.name.Name.{Name};
 ghost use Rattle.dname.specs.Name.{name_of};
 ghost use Rattle.update.specs.Meaning.{policy_of};
 ghost use Rattle.request.specs.Lent.{refusal_in, PromisedIn, RequestPromiseIn};
-ghost use Rattle.request.specs.Inner.{Follows, Surveys, refused_by, answered_by};
+ghost use Rattle.request.specs.Inner.{Follows, StandingIn, Surveys, refused_by, answered_by};
 
 use crate::answer::Answer;
-use crate::decide::{Change, Update};
+use crate::decide::{Change, Standing, Update};
 use crate::refusal::Refusal;
 use crate::{CheckAnswer, refusal, spelled};
 use dname::name::Name;
 use lentzone::{place, survey};
-use zone::entry::{Address, Dhcid, Records};
+use zone::entry::{Address, Dhcid};
 use zone::survey::Survey;
 
 // refusal: the number of document 01's table, 0 where there is none; 17 too where the octets are not
@@ -35,6 +35,17 @@ fn look(octets: &[u8], name: &Name, family: u8, policy: u8) -> Result<Survey, Re
     let s = survey::survey_in(octets, spelled(name));
     refusal::check(s, name, family, policy)?;
     Ok(s)
+}
+
+// What stands at a place, if there is one.
+fn standing(octets: &[u8], place: Option<usize>) -> Option<Standing>
+    ensures { StandingIn octets.now place result }
+{
+    let place = place?;
+    Some(Standing {
+        place,
+        records: place::records_at(octets, place),
+    })
 }
 
 // A request that is refused.
@@ -58,7 +69,7 @@ fn says(answer: Answer) -> RequestAnswer
 }
 
 // A request other than A: the name stays that stands at the place found.
-fn send<F: FnOnce(Survey, Records) -> Change>(
+fn send<F: FnOnce(Option<Standing>) -> Change>(
     octets: &mut [u8],
     name: &Name,
     family: u8,
@@ -70,10 +81,10 @@ fn send<F: FnOnce(Survey, Records) -> Change>(
 {
     match look(octets, name, family, policy) {
         Err(refusal) => refuse(refusal),
-        Ok(s) => match decide(s, place::records_at(octets, s.found)) {
+        Ok(s) => match decide(standing(octets, s.found)) {
             Change::Stays(answer) => says(answer),
-            Change::Writes(r) => {
-                place::write_records(octets, s.found, r);
+            Change::Writes(place, r) => {
+                place::write_records(octets, place, r);
                 says(Answer::Success)
             }
         },
@@ -110,8 +121,8 @@ pub fn jespurla_request_a_lent(
         Err(refusal) => refuse(refusal),
         Ok(s) => match update.add_name(s) {
             Change::Stays(answer) => says(answer),
-            Change::Writes(r) => {
-                place::write_entry(octets, s.free, name, r);
+            Change::Writes(place, r) => {
+                place::write_entry(octets, place, name, r);
                 says(Answer::Success)
             }
         },
@@ -134,8 +145,8 @@ pub fn jespurla_request_b_lent(
         family,
         address,
     };
-    send(octets, &name, family, policy, |s, e| {
-        update.add_address(s, e, policy)
+    send(octets, &name, family, policy, |found| {
+        update.add_address(found, policy)
     })
 }
 
@@ -154,7 +165,13 @@ pub fn jespurla_request_remove_address_lent(
         family,
         address,
     };
-    send(octets, &name, family, 0, |s, e| update.remove_address(s, e))
+    send(
+        octets,
+        &name,
+        family,
+        0,
+        |found| update.remove_address(found),
+    )
 }
 
 // The second remove request: deletes a name that the DHCID holds and that has no address.
@@ -172,5 +189,5 @@ pub fn jespurla_request_remove_name_lent(
         family,
         address,
     };
-    send(octets, &name, family, 0, |s, e| update.remove_name(s, e))
+    send(octets, &name, family, 0, |found| update.remove_name(found))
 }

@@ -16,14 +16,14 @@ ghost use Rattle.dname.specs.Name.{name_of};
 ghost use Rattle.zone.specs.Survey.{place_of, records_of};
 ghost use Rattle.update.specs.Meaning.{policy_of, update_of};
 ghost use Rattle.request.specs.Promise.{refusal_of, RequestPromise};
-ghost use Rattle.request.specs.Inner.{written as writtenAt, settled, refused_zone, Visits, Settles, Follows};
+ghost use Rattle.request.specs.Inner.{written as writtenAt, settled, standing as standingAt, refused_zone, Visits, Settles, Follows};
 
 use crate::answer::Answer;
-use crate::decide::{Change, Update};
+use crate::decide::{Change, Standing, Update};
 use crate::refusal::Refusal;
 use dname::name::Name;
 use zone::entry::{Address, Dhcid, Entry, Records};
-use zone::survey::{Survey, Visit};
+use zone::survey::Visit;
 use zone::{Zone, survey};
 
 // What the check answers. refusal: the number of document 01's table, 0 where there is none.
@@ -60,6 +60,16 @@ fn records_of(e: Entry) -> Records
         v4: e.v4,
         v6: e.v6,
     }
+}
+
+// These records at their place, if there is one.
+fn standing(place: Option<usize>, records: Records) -> Option<Standing>
+    ensures { result ≡ standingAt place records }
+{
+    Some(Standing {
+        place: place?,
+        records,
+    })
 }
 
 // What stands at a name as a place.
@@ -105,10 +115,10 @@ fn refuse(zone: &Zone, refusal: Refusal) -> Answered
     }
 }
 
-// The zone after a change at a place under a name, with the answer.
+// The zone after a change under a name, with the answer.
 #[tactic(auto, unfolding(crate::specs::Promise::number_of))]
-fn settle(zone: &Zone, place: usize, name: &Name, change: Change) -> Answered
-    ensures { result ≡ settled zone.now place name.now change }
+fn settle(zone: &Zone, name: &Name, change: Change) -> Answered
+    ensures { result ≡ settled zone.now name.now change }
 {
     match change {
         Change::Stays(answer) => Answered {
@@ -116,7 +126,7 @@ fn settle(zone: &Zone, place: usize, name: &Name, change: Change) -> Answered
             answer: u32::from(answer),
             zone: *zone,
         },
-        Change::Writes(r) => Answered {
+        Change::Writes(place, r) => Answered {
             refusal: 0,
             answer: u32::from(Answer::Success),
             zone: written(*zone, place, place_of(name, r)),
@@ -125,7 +135,7 @@ fn settle(zone: &Zone, place: usize, name: &Name, change: Change) -> Answered
 }
 
 // A request other than A: the name stays that stands at the place found.
-fn send<F: FnOnce(Survey, Records) -> Change>(
+fn send<F: FnOnce(Option<Standing>) -> Change>(
     zone: &Zone,
     name: &Name,
     family: u8,
@@ -138,8 +148,8 @@ fn send<F: FnOnce(Survey, Records) -> Change>(
     match visit(zone, name, family, policy) {
         Err(refusal) => refuse(zone, refusal),
         Ok(v) => {
-            let change = decide(v.survey, records_of(v.entry));
-            settle(zone, v.survey.found, &v.entry.name, change)
+            let found = standing(v.survey.found, records_of(v.entry));
+            settle(zone, &v.entry.name, decide(found))
         }
     }
 }
@@ -173,7 +183,7 @@ pub fn jespurla_request_a(
     };
     match visit(&zone, &name, family, 0) {
         Err(refusal) => refuse(&zone, refusal),
-        Ok(v) => settle(&zone, v.survey.free, &name, update.add_name(v.survey)),
+        Ok(v) => settle(&zone, &name, update.add_name(v.survey)),
     }
 }
 
@@ -193,8 +203,8 @@ pub fn jespurla_request_b(
         family,
         address,
     };
-    send(&zone, &name, family, policy, |s, e| {
-        update.add_address(s, e, policy)
+    send(&zone, &name, family, policy, |found| {
+        update.add_address(found, policy)
     })
 }
 
@@ -213,7 +223,13 @@ pub fn jespurla_request_remove_address(
         family,
         address,
     };
-    send(&zone, &name, family, 0, |s, e| update.remove_address(s, e))
+    send(
+        &zone,
+        &name,
+        family,
+        0,
+        |found| update.remove_address(found),
+    )
 }
 
 // The second remove request: deletes a name that the DHCID holds and that has no address.
@@ -231,5 +247,5 @@ pub fn jespurla_request_remove_name(
         family,
         address,
     };
-    send(&zone, &name, family, 0, |s, e| update.remove_name(s, e))
+    send(&zone, &name, family, 0, |found| update.remove_name(found))
 }

@@ -1,5 +1,6 @@
 -- The laws of a walk over the places of a zone. Assumes nothing.
-use Rattle.std.proofs.Common.{◌≡◌, ℕ, zero, suc, ◌+◌, ◌<◌, ◌≤◌, Bool, true, false, cond, not, ◌&&◌, ◌||◌, ltb, leb, List, [], ◌∷◌, ◌++◌, map, length, get_or, take, drop, set, sym, refl, ap, ◌∙◌, true≢false, append_assoc, append-nil, add-zero, add-one, arith, drop_of_length-le, drop-cons, take-suc-set, ltb-true, lt-ltb}
+use Rattle.std.proofs.Common.{◌≡◌, ℕ, zero, suc, ◌+◌, ◌<◌, ◌≤◌, Bool, true, false, cond, not, ◌&&◌, ◌||◌, leb, List, [], ◌∷◌, ◌++◌, map, length, get_or, take, drop, set, sym, refl, ap, ◌∙◌, true≢false, append_assoc, append-nil, add-zero, add-one, arith, drop_of_length-le, drop-cons, take-suc-set}
+use Rattle.std.specs.Prelude.{Option, Some, None}
 use Rattle.std.specs.List.{list_any}
 use lib.ListN.{length-map}
 use lib.Seq.{take-set-le}
@@ -40,16 +41,16 @@ module _ (es : List Entry) (d : Entry) (i : ℕ) (h : i < length es) where
       let q : all_in_order (drop i es) ≡ (seen && all_in_order (drop (i + 1) es)) = rw (add-one, drop-cons es i d h, s) in
       e ∙ ap (λ (b : Bool). inorder && b) q ∙ and_and inorder seen (all_in_order (drop (i + 1) es)) ∙ ap (λ (b : Bool). b && all_in_order (drop (i + 1) es)) (sym n)
 
-  pub place_step : (p : Entry → Bool) (otherwise : ℕ) (hit : Bool) (next : ℕ) → hit ≡ p it → next ≡ cond hit i otherwise
+  pub place_step : (p : Entry → Bool) (otherwise : Option ℕ) (hit : Bool) (next : Option ℕ) → hit ≡ p it → next ≡ cond hit (Some i) otherwise
       → place_from p i otherwise (drop i es) ≡ place_from p (i + 1) next (drop (i + 1) es)
   unfolding place_from
   place_step p otherwise hit next e n = rw (add-one, drop-cons es i d h, n, e)
 
-  pub free_step : (otherwise : ℕ) (seen : Bool) (next : ℕ) → seen ≡ used it → next ≡ cond seen otherwise i
+  pub free_step : (otherwise : Option ℕ) (seen : Bool) (next : Option ℕ) → seen ≡ used it → next ≡ cond seen otherwise (Some i)
       → place_from (λ (e : Entry). not (used e)) i otherwise (drop i es) ≡ place_from (λ (e : Entry). not (used e)) (i + 1) next (drop (i + 1) es)
   free_step otherwise seen next e n = place_step (λ (x : Entry). not (used x)) otherwise (not seen) next (ap not e) (n ∙ go seen)
     where
-      go : (b : Bool) → cond b otherwise i ≡ cond (not b) i otherwise
+      go : (b : Bool) → cond b otherwise (Some i) ≡ cond (not b) (Some i) otherwise
       go true = refl
       go false = refl
 
@@ -103,7 +104,7 @@ module _ (es : List Entry) (i : ℕ) (h : length es ≤ i) where
       go true = refl
       go false = refl
 
-  pub place_end : (p : Entry → Bool) (otherwise : ℕ) → place_from p i otherwise (drop i es) ≡ otherwise
+  pub place_end : (p : Entry → Bool) (otherwise : Option ℕ) → place_from p i otherwise (drop i es) ≡ otherwise
   unfolding place_from
   place_end p otherwise = rw (drop_of_length-le es h)
 
@@ -114,16 +115,6 @@ module _ (es : List Entry) (i : ℕ) (h : length es ≤ i) where
       sym (append-nil l) ∙ ap (λ (m : List ℕ). l ++ m) (sym e) ∙ q
 
 -- ---- the place that is read at the end
-
-pub chosen_below : (found : ℕ) → cond (ltb found 64) found 0 < 64
-chosen_below found = go (ltb found 64) refl
-  where
-    go : (b : Bool) → ltb found 64 ≡ b → cond b found 0 < 64
-    go true q = ltb-true found 64 q
-    go false q = omega arith
-
-pub chosen_found : (found : ℕ) → found < 64 → cond (ltb found 64) found 0 ≡ found
-chosen_found found h = rw (lt-ltb found 64 h)
 
 pub get_d_any : {A : Type 0} (l : List A) (i : ℕ) (d e : A) → i < length l → get_or l i d ≡ get_or l i e
 get_d_any [] i d e h = absurd (omega arith)

@@ -1,5 +1,5 @@
 -- What the walk over the places finds. No promise of an exported call cites these.
-use Rattle.std.specs.Prelude.{◌≡◌, ℕ, zero, suc, ◌+◌, ◌-◌, ◌*◌, ◌/◌, ◌%◌, ◌^◌, ◌<◌, Bool, false, cond, not, ◌&&◌, ◌||◌, List, [], ◌∷◌, length, ◌==◌, nat_lt, slice_index, slice_index_or}
+use Rattle.std.specs.Prelude.{◌≡◌, ℕ, zero, suc, ◌+◌, ◌-◌, ◌*◌, ◌/◌, ◌%◌, ◌^◌, ◌<◌, Bool, false, cond, not, ◌&&◌, ◌||◌, List, [], ◌∷◌, length, ◌==◌, nat_lt, slice_index, slice_index_or, Option, Some, None}
 use Rattle.octets.specs.Word.{value, caseless}
 use Rattle.dname.specs.Name.{key, same_name, name_of}
 use Rattle.octets.specs.Count.{Octets, distinct}
@@ -74,16 +74,16 @@ named n e = used e && same_name (name_of e.name) n
 
 -- ---- the places of a zone
 
--- the last place where a test holds, counted from i; where there is none, the number given
-unfoldable pub place_from : {A : Type 0} → (A → Bool) → ℕ → ℕ → List A → ℕ
+-- the last place where a test holds, counted from i; where there is none, what is given
+unfoldable pub place_from : {A : Type 0} → (A → Bool) → ℕ → Option ℕ → List A → Option ℕ
 place_from p i otherwise [] = otherwise
-place_from p i otherwise (x ∷ l) = place_from p (suc i) (cond (p x) i otherwise) l
+place_from p i otherwise (x ∷ l) = place_from p (suc i) (cond (p x) (Some i) otherwise) l
 
 pub record Found (z : Zone) (n : Octets) (s : Survey) : Type 0 where
   pub places_are : length z.entries ≡ 64
   pub order_is : s.inorder ≡ all_in_order z.entries
-  pub found_is : s.found ≡ place_from (named n) 0 64 z.entries
-  pub free_is : s.free ≡ place_from (λ (e : Entry). not (used e)) 0 64 z.entries
+  pub found_is : s.found ≡ place_from (named n) 0 None z.entries
+  pub free_is : s.free ≡ place_from (λ (e : Entry). not (used e)) 0 None z.entries
 
 pub record Surveyed (z : Zone) (n : Octets) (s : Survey) : Type 0 where
   pub places : Found z n s
@@ -92,4 +92,4 @@ pub record Surveyed (z : Zone) (n : Octets) (s : Survey) : Type 0 where
 -- with what stands at the place of the name
 pub record Visited (z : Zone) (n : Octets) (v : Visit) : Type 0 where
   pub surveyed : Surveyed z n v.survey
-  pub entry_is : (d : Entry) → v.survey.found < 64 → v.entry ≡ slice_index_or z.entries v.survey.found d
+  pub entry_is : (d : Entry) (place : ℕ) → v.survey.found ≡ Some place → v.entry ≡ slice_index_or z.entries place d

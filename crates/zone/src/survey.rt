@@ -10,13 +10,13 @@ use crate::{Zone, entry, fingerprint, name};
 use dname::name::Name;
 
 // inorder: every place is in order. distinct: no two names are equal. found: the place of the name
-// asked for, and free: a free place, each 64 where there is none.
+// asked for. free: a free place.
 #[derive(Clone, Copy)]
 pub struct Survey {
     pub inorder: bool,
     pub distinct: bool,
-    pub found: usize,
-    pub free: usize,
+    pub found: Option<usize>,
+    pub free: Option<usize>,
 }
 
 // A survey, with what stands at the place found; where none is, any place.
@@ -32,7 +32,7 @@ pub fn both(a: bool, b: bool) -> bool
     if a { b } else { false }
 }
 
-pub fn choose(b: bool, x: usize, y: usize) -> usize
+pub fn choose<T: Copy>(b: bool, x: T, y: T) -> T
     ensures { result ≡ (if b then x else y) }
 {
     if b { x } else { y }
@@ -69,11 +69,11 @@ pub fn survey_of(z: &Zone, n: &Name) -> Visit
     let mut fingerprints = [0u32; 64];
     let mut used: usize = 0;
     let mut inorder = true;
-    let mut found: usize = 64;
-    let mut free: usize = 64;
+    let mut found = None;
+    let mut free = None;
     for (i, e) in places.iter().enumerate() {
         if e.kind == 0 {
-            free = i;
+            free = Some(i);
             continue;
         }
         let own = name::fingerprint_of(&e.name);
@@ -84,11 +84,10 @@ pub fn survey_of(z: &Zone, n: &Name) -> Visit
         let fine = entry::is_in_order(e.kind, full, sets);
         inorder = both(inorder, fine);
         let named = name::is_same(own, &e.name, fingerprint, n);
-        found = choose(named, i, found);
+        found = choose(named, Some(i), found);
     }
     let repeats = fingerprint::repeats(&fingerprints[..used]);
     let distinct = !repeats || distinct_names(places);
-    let at = choose(found < 64, found, 0);
     Visit {
         survey: Survey {
             inorder,
@@ -96,6 +95,6 @@ pub fn survey_of(z: &Zone, n: &Name) -> Visit
             found,
             free,
         },
-        entry: places[at],
+        entry: places[found.unwrap_or(0)],
     }
 }

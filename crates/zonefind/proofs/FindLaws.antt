@@ -3,8 +3,7 @@ use mathlib.Core.Path.{◌≡◌, refl, sym, ◌∙◌, ap}
 use mathlib.Core.Bool.{Bool, true, false, cond, ◌&&◌, true≢false}
 use mathlib.Core.List.{List, [], ◌∷◌}
 use mathlib.Core.Option.{some}
-use Rattle.std.specs.Prelude.{Option, Result, Ok, Err}
-use Rattle.std.specs.Bool.{then_some}
+use Rattle.std.specs.Prelude.{Option, Some, None, Result, Ok, Err}
 use Rattle.std.specs.Result.{IsErr}
 use Rattle.request.specs.declared.refusal.Refusal.{Refusal}
 use Rattle.request.specs.declared.refusal.Refusal.TheVariants.{Form, Number, Name}
@@ -12,15 +11,14 @@ use Rattle.request.specs.Answers.{refusal_number, refused}
 use Rattle.zonefind.specs.Inner.{told, Located}
 use Prim.Native.Nat.{ℕ, zero, suc, ◌≤◌, ◌<◌}
 use native.Mathlib.Omega.{arith}
-use lib.Dec.{ltb}
 use lib.ListN.{length, get_or}
-use borrow.Author.Tests.{eq-eqb, ne_eqb, ltb-true, ltb-false}
+use borrow.Author.Tests.{eq-eqb, ne_eqb}
 use borrow.Table.Steps.{cases}
 use Rattle.octets.specs.Compare.{same_octets}
 use Rattle.octets.specs.Count.{Octets}
 use Rattle.dname.specs.Name.{name_of, is_full, key, same_name}
 use Rattle.zone.specs.Meaning.{used, key_of, formed, with_key}
-use Rattle.zone.specs.Survey.{named, Surveyed}
+use Rattle.zone.specs.Survey.{named, place_from, Surveyed}
 use Rattle.zone.specs.declared.entry.Entry.{Entry}
 use Rattle.zone.specs.declared.survey.Survey.{Survey}
 use Rattle.zone.proofs.SurveyLaws.{blank}
@@ -29,7 +27,7 @@ use Rattle.lentzone.specs.Decode.{entry_in, zone_in, is_zone}
 use Rattle.lentzone.specs.Inner.{SurveyedIn, row_at}
 use Rattle.lentzone.proofs.FormLaws.{zone_octets, zone_form}
 use Rattle.lentzone.proofs.PlaceLaws.{row_no_place, place_at}
-use Rattle.request.proofs.PlaceLaws.{Alone, None, here_at, here_none, alone_found, formed_places, formed_names}
+use Rattle.request.proofs.PlaceLaws.{Alone, None as Nowhere, here_at, here_none, alone_found, found_below, formed_names}
 use Rattle.zonefind.specs.Find.{find_refusal, free_place, place_with, find_entry, standing, SaysWhatStands}
 
 -- ---- the place with a key
@@ -57,7 +55,7 @@ with_found [] i d k p a u = absurd (omega arith)
 with_found (e ∷ es) zero d k p a u = with_here k e es u
 with_found (e ∷ es) (suc i) d k p a u = with_past k e es a.0 ∙ with_found es i d k (omega arith) a.1 u
 
-with_none : (n : Octets) (es : List Entry) → None (named n) es → place_with (key n) es ≡ free_place
+with_none : (n : Octets) (es : List Entry) → Nowhere (named n) es → place_with (key n) es ≡ free_place
 with_none n [] h = unfold place_with in refl
 with_none n (e ∷ es) h = with_past (key n) e es (unfold named same_name in h.0) ∙ with_none n es h.1
 
@@ -78,20 +76,17 @@ module _ (z : List ℕ) (n : Octets) (s : Survey) (v : SurveyedIn z n s) where
     seen : Surveyed (zone_in z) n s
     seen = v.surveyed size
 
-    found_there : s.found < 64 → entry_in (row_at z s.found) ≡ place_with (key n) es
-    found_there h =
-        let p = here_at (named n) blank es s.found seen.places.found_is h in
-        let u : (used (get_or es s.found blank) && same_octets (key_of (get_or es s.found blank)) (key n)) ≡ true = unfold named same_name in p.1 in
-        place_at z s.found size h blank
-        ∙ sym (with_found es s.found blank (key n) p.0 (alone_found es s.found blank (key n) p.0 u (formed_names (zone_in z) form)) u)
+    found_there : (p : ℕ) → s.found ≡ Some p → entry_in (row_at z p) ≡ place_with (key n) es
+    unfolding named same_name
+    found_there p h =
+        let w : place_from (named n) 0 None es ≡ Some p = sym seen.places.found_is ∙ h in
+        let q = here_at (named n) blank es p w in
+        let u : (used (get_or es p blank) && same_octets (key_of (get_or es p blank)) (key n)) ≡ true = q.1 in
+        place_at z p size (found_below (zone_in z) form n blank p w) blank
+        ∙ sym (with_found es p blank (key n) q.0 (alone_found es p blank (key n) q.0 u (formed_names (zone_in z) form)) u)
 
-    found_nowhere : 64 ≤ s.found → entry_in (row_at z s.found) ≡ place_with (key n) es
-    found_nowhere h =
-        ap entry_in (sym (row_no_place z s.found h))
-        ∙ sym (with_none n es (here_none (named n) blank es s.found seen.places.found_is (formed_places (zone_in z) form) (λ q. omega arith)))
-
-    found_entry : entry_in (row_at z s.found) ≡ place_with (key n) es
-    found_entry = cases (ltb s.found 64) (λ t. found_there (ltb-true s.found 64 t)) (λ t. found_nowhere (ltb-false s.found 64 t))
+    found_nowhere : s.found ≡ None → free_place ≡ place_with (key n) es
+    found_nowhere h = sym (with_none n es (here_none (named n) blank es (sym seen.places.found_is ∙ h)))
 
 -- ---- the refusal
 
@@ -105,12 +100,14 @@ module _ (z : List ℕ) (n : Octets) where
   not_refused e = cases (is_zone z) (λ t. t) (λ t. let k : ◌≡◌ {A = ℕ} 17 0 = sym (rw t) ∙ e in absurd (omega arith))
 
   -- the place of the survey where nothing is refused, and no place where something is
-  pub entry_found : (s : Survey) → SurveyedIn z n s → find_refusal z n ≡ 0 → entry_in (row_at z s.found) ≡ find_entry z n
-  unfolding find_entry
-  entry_found s v e = found_entry z n s v (not_refused e) ∙ sym (rw (eq-eqb (find_refusal z n) 0 e))
+  module _ (s : Survey) (v : SurveyedIn z n s) (e : find_refusal z n ≡ 0) where
+    pub entry_found : (p : ℕ) → s.found ≡ Some p → entry_in (row_at z p) ≡ find_entry z n
+    unfolding find_entry
+    entry_found p h = found_there z n s v (not_refused e) p h ∙ sym (rw (eq-eqb (find_refusal z n) 0 e))
 
-  pub entry_absent : (s : Survey) → SurveyedIn z n s → find_refusal z n ≡ 0 → 64 ≤ s.found → entry_in (row_at z 64) ≡ find_entry z n
-  entry_absent s v e h = ap entry_in (sym (row_no_place z 64 (omega arith)) ∙ row_no_place z s.found h) ∙ entry_found s v e
+    pub entry_absent : s.found ≡ None → entry_in (row_at z 64) ≡ find_entry z n
+    unfolding find_entry
+    entry_absent h = ap entry_in (sym (row_no_place z 64 (omega arith))) ∙ found_nowhere z n s v (not_refused e) h ∙ sym (rw (eq-eqb (find_refusal z n) 0 e))
 
   pub entry_refused : (find_refusal z n ≡ 0 → ⊥) → entry_in (row_at z 64) ≡ find_entry z n
   unfolding find_entry
@@ -128,12 +125,12 @@ module _ (z : List ℕ) (n : Octets) where
   located_refused (Ok x) h e = absurd (true≢false (sym h))
   located_refused (Err r) h e = record { refusal_is = e; entry_is = entry_refused z n (λ q. nonzero r (e ∙ q)) }
 
-  pub located : (s : Survey) → SurveyedIn z n s → 0 ≡ find_refusal z n → Located z n (Ok (then_some (ltb s.found 64) s.found))
-  located s v e = record { refusal_is = e; entry_is = go (ltb s.found 64) refl }
+  pub located : (s : Survey) → SurveyedIn z n s → 0 ≡ find_refusal z n → Located z n (Ok s.found)
+  located s v e = record { refusal_is = e; entry_is = go s.found refl }
     where
-      go : (b : Bool) → ltb s.found 64 ≡ b → entry_in (row_at z (told (Ok (then_some b s.found)))) ≡ find_entry z n
-      go true h = entry_found z n s v (sym e)
-      go false h = entry_absent z n s v (sym e) (ltb-false s.found 64 h)
+      go : (o : Option ℕ) → s.found ≡ o → entry_in (row_at z (told (Ok o))) ≡ find_entry z n
+      go None h = entry_absent z n s v (sym e) h
+      go (Some p) h = entry_found z n s v (sym e) p h
 
 -- ---- the claim
 

@@ -46,7 +46,7 @@ fn locate(octets: &[u8], name: &[u8]) -> Result<Option<usize>, Refusal>
 {
     let s = survey::survey_in(octets, name);
     check(s, name::is_full_name(name))?;
-    Ok((s.found < PLACES).then_some(s.found))
+    Ok(s.found)
 }
 
 // What stands at a name.

@@ -2,14 +2,13 @@
 use mathlib.Core.Path.{◌≡◌, refl, sym, ◌∙◌, ap}
 use mathlib.Core.Bool.{Bool, true, false, ◌&&◌, true≢false}
 use mathlib.Core.List.{List, [], ◌∷◌}
+use Rattle.std.specs.Prelude.{Option, Some, None}
 use Prim.Native.Nat.{ℕ, zero, suc, ◌+◌, ◌*◌, ◌-◌, ◌<◌}
 use native.Mathlib.Decide.{ℕ_discrete}
 use native.Mathlib.Omega.{arith}
-use lib.Dec.{ltb}
 use lib.ListN.{length, get_or, set, drop, length-drop, length-set}
 use lib.Seq.{length-take-le, get_or-set_same, get_or-set_other}
-use borrow.Author.Tests.{eq-eqb, ltb-true, lt-ltb}
-use borrow.Table.Steps.{cases}
+use borrow.Author.Tests.{eq-eqb}
 use Rattle.octets.specs.Compare.{same_octets}
 use Rattle.octets.specs.Count.{Octets}
 use Rattle.octets.proofs.BoolLaws.{and_both, and_left, and_right}
@@ -25,7 +24,7 @@ use Rattle.lentzone.specs.Inner.{place_in, row_at, name_at}
 use Rattle.lentzone.proofs.DecodeLaws as decode
 use Rattle.lentzone.proofs.FormLaws.{zone_octets, zone_form}
 use Rattle.lentzone.proofs.PlaceLaws.{row_there, place_at}
-use Rattle.request.proofs.PlaceLaws.{Alone, None, alone_found, here_at, here_none, formed_names}
+use Rattle.request.proofs.PlaceLaws.{Alone, None as Nowhere, alone_found, here_at, here_none, found_below, formed_names}
 use Rattle.zonesame.specs.Inner.{Fingerprints, spelled_so}
 
 -- ---- the octets of a place
@@ -54,7 +53,7 @@ once (x ∷ es) k zero (suc j) p q s t a b = absurd (true≢false (sym s ∙ b.0
 once (x ∷ es) k (suc i) zero p q s t a b = absurd (true≢false (sym t ∙ a.0))
 once (x ∷ es) k (suc i) (suc j) p q s t a b = ap suc (once es k i j (omega arith) (omega arith) s t a.1 b.1)
 
-none_at : {A : Type 0} (f : A → Bool) (l : List A) (d : A) (i : ℕ) → i < length l → None f l → f (get_or l i d) ≡ false
+none_at : {A : Type 0} (f : A → Bool) (l : List A) (d : A) (i : ℕ) → i < length l → Nowhere f l → f (get_or l i d) ≡ false
 none_at f [] d i h n = absurd (omega arith)
 none_at f (x ∷ l) d zero h n = n.0
 none_at f (x ∷ l) d (suc i) h n = none_at f l d i (omega arith) n.1
@@ -63,16 +62,21 @@ module _ (z n : List ℕ) (g : is_zone z ≡ true) where
   abbrev es : List Entry
   es = (zone_in z).entries
 
-  abbrev r : ℕ
+  abbrev r : Option ℕ
   r = place_in z n
 
-  found : r ≡ place_from (named n) 0 64 es
+  found : r ≡ place_from (named n) 0 None es
   unfolding place_in
   found = rw (eq-eqb (length z) 23936 (zone_octets z g))
 
+  -- the place of a name is one of the 64
+  pub place_below : (place : ℕ) → Some place ≡ place_in z n → place < 64
+  place_below place q = found_below (zone_in z) (zone_form z g) n blank place (sym (q ∙ found))
+
   -- a place where the name stands is its place
-  pub only_place : (place : ℕ) → place < 64 → named n (entry_in (row_at z place)) ≡ true → place ≡ place_in z n
-  only_place place h t = cases (ltb r 64) (λ b. there (ltb-true r 64 b)) (λ b. absurd (nowhere (λ k. true≢false (sym (lt-ltb r 64 k) ∙ b))))
+  pub only_place : (place : ℕ) → place < 64 → named n (entry_in (row_at z place)) ≡ true → place_in z n ≡ Some place
+  unfolding named same_name
+  only_place place h t = go r refl
     where
       low : place < length es
       low = omega (arith, decode.zone_length z)
@@ -81,17 +85,15 @@ module _ (z n : List ℕ) (g : is_zone z ≡ true) where
       here = ap (named n) (sym (place_at z place (zone_octets z g) h blank)) ∙ t
 
       hit : Hit es (key n) place
-      hit = unfold named same_name in here
+      hit = here
 
-      there : r < 64 → place ≡ r
-      there k =
-          let a = here_at (named n) blank es r found k in
-          let o : Hit es (key n) r = unfold named same_name in a.1 in
+      go : (o : Option ℕ) → r ≡ o → r ≡ Some place
+      go None q = absurd (true≢false (sym here ∙ none_at (named n) es blank place low (here_none (named n) blank es (sym found ∙ q))))
+      go (Some p) q =
+          let a = here_at (named n) blank es p (sym found ∙ q) in
+          let o : Hit es (key n) p = a.1 in
           let d = formed_names (zone_in z) (zone_form z g) in
-          once es (key n) place r low a.0 hit o (alone_found es place blank (key n) low hit d) (alone_found es r blank (key n) a.0 o d)
-
-      nowhere : ¬ (r < 64) → ⊥
-      nowhere k = true≢false (sym here ∙ none_at (named n) es blank place low (here_none (named n) blank es r found (decode.zone_length z) k))
+          q ∙ ap Some (once es (key n) p place a.0 low o hit (alone_found es p blank (key n) a.0 o d) (alone_found es place blank (key n) low hit d))
 
 -- ---- fingerprints
 

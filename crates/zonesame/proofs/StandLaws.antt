@@ -2,13 +2,13 @@
 use mathlib.Core.Path.{◌≡◌, refl, sym, ◌∙◌, ap}
 use mathlib.Core.Bool.{Bool, true, false, cond, ◌&&◌, true≢false}
 use mathlib.Core.List.{List, [], ◌∷◌}
-use mathlib.Core.Option.{Option, some}
+use mathlib.Core.Option.{Option as Told, some}
+use Rattle.std.specs.Prelude.{Option, Some, None}
 use Prim.Native.Nat.{ℕ, ◌+◌, ◌≤◌, ◌<◌}
 use native.Mathlib.Numerals.{add-one}
-use lib.Dec.{ltb}
 use lib.ListN.{length, get_or, drop, drop_of_length-le}
 use lib.Seq.{drop-cons}
-use borrow.Author.Tests.{eq-eqb, ltb-true, lt-ltb, le-ltb}
+use borrow.Author.Tests.{eq-eqb}
 use borrow.Table.Steps.{cases}
 use Rattle.octets.proofs.BoolLaws.{and_both, and_left, and_right}
 use Rattle.octets.proofs.CompareLaws.{same_self, same_true}
@@ -25,20 +25,20 @@ use Rattle.update.proofs.ZoneLaws.{some≢none}
 use Rattle.lentzone.specs.Decode.{zone_in, entry_in}
 use Rattle.lentzone.specs.Inner.{place_in, row_at, records_at}
 use Rattle.lentzone.proofs.PlaceLaws.{place_at}
-use Rattle.request.proofs.PlaceLaws.{found_host, found_order, not_found, with_keys, with_here, with_past, head_once, tail_distinct}
-use Rattle.zonesame.specs.Inner.{same_host, stands_in, all_stand}
+use Rattle.request.proofs.PlaceLaws.{found_below, found_host, found_order, not_found, with_keys, with_here, with_past, head_once, tail_distinct}
+use Rattle.zonesame.specs.Inner.{same_host, same_at, stands_in, all_stand}
 use Rattle.zonesame.proofs.HostLaws.{host_told, host_tells}
 
 -- ---- one place
 
-module _ (z : List ℕ) (e : Entry) (at : ℕ) (q : at ≡ place_in z (name_of e.name)) where
-  pub stands_nowhere : 64 ≤ at → false ≡ stands_in z e
+module _ (z : List ℕ) (e : Entry) where
+  pub stands_nowhere : place_in z (name_of e.name) ≡ None → false ≡ stands_in z e
   unfolding stands_in
-  stands_nowhere h = sym (rw (sym q, le-ltb at 64 h))
+  stands_nowhere q = sym (ap (same_at z e) q)
 
-  pub stands_there : at < 64 → (r : Bool) → r ≡ same_host (records_of e) (records_at z at) → r ≡ stands_in z e
+  pub stands_there : (at : ℕ) → place_in z (name_of e.name) ≡ Some at → (r : Bool) → r ≡ same_host (records_of e) (records_at z at) → r ≡ stands_in z e
   unfolding stands_in
-  stands_there h r s = s ∙ sym (rw (sym q, lt-ltb at 64 h))
+  stands_there at q r s = s ∙ sym (ap (same_at z e) q)
 
 -- ---- the walk
 
@@ -67,46 +67,46 @@ stand_end z es i h = rw (drop_of_length-le es h)
 
 module _ (z : List ℕ) (l : length z ≡ 23936) (g : formed (zone_in z) ≡ true) where
   module _ (e : Entry) (o : in_order e ≡ true) where
-    abbrev at : ℕ
+    abbrev at : Option ℕ
     at = place_in z (name_of e.name)
 
-    found : at ≡ place_from (named (name_of e.name)) 0 64 (zone_in z).entries
+    found : at ≡ place_from (named (name_of e.name)) 0 None (zone_in z).entries
     unfolding place_in
     found = rw (eq-eqb (length z) 23936 l)
 
-    abbrev other : Entry
-    other = get_or (zone_in z).entries at blank
+    module _ (p : ℕ) (q : at ≡ Some p) where
+      abbrev other : Entry
+      other = get_or (zone_in z).entries p blank
 
-    row : at < 64 → entry_in (row_at z at) ≡ other
-    row h = place_at z at l h blank
+      w : place_from (named (name_of e.name)) 0 None (zone_in z).entries ≡ Some p
+      w = sym found ∙ q
 
-    host : at < 64 → (zone_of (zone_in z)).at (key_of e) ≡ some (host_of other)
-    host h = found_host (zone_in z) g (name_of e.name) blank at found h
+      row : entry_in (row_at z p) ≡ other
+      row = place_at z p l (found_below (zone_in z) g (name_of e.name) blank p w) blank
+
+      host : (zone_of (zone_in z)).at (key_of e) ≡ some (host_of other)
+      host = found_host (zone_in z) g (name_of e.name) blank p w
 
     pub stands_told : stands_in z e ≡ true → (zone_of (zone_in z)).at (key_of e) ≡ some (host_of e)
     unfolding stands_in
-    stands_told t = go (ltb at 64) refl t
+    stands_told t = go at refl t
       where
-        go : (b : Bool) → ltb at 64 ≡ b → cond b (same_host (records_of e) (records_of (entry_in (row_at z at)))) false ≡ true → (zone_of (zone_in z)).at (key_of e) ≡ some (host_of e)
-        go true q s =
-            let h : at < 64 = ltb-true at 64 q in
-            let r = ap (λ (x : Entry). same_host (records_of e) (records_of x)) (sym (row h)) ∙ s in
-            host h ∙ ap some (sym (host_told e other o (found_order (zone_in z) g (name_of e.name) blank at found h) r))
-        go false q s = absurd (true≢false (sym s))
+        go : (o : Option ℕ) → at ≡ o → same_at z e o ≡ true → (zone_of (zone_in z)).at (key_of e) ≡ some (host_of e)
+        go None q s = absurd (true≢false (sym s))
+        go (Some p) q s =
+            let r = ap (λ (x : Entry). same_host (records_of e) (records_of x)) (sym (row p q)) ∙ s in
+            host p q ∙ ap some (sym (host_told e (other p q) o (found_order (zone_in z) g (name_of e.name) blank p (w p q)) r))
 
     pub stands_tells : (zone_of (zone_in z)).at (key_of e) ≡ some (host_of e) → stands_in z e ≡ true
     unfolding stands_in
-    stands_tells t = go (ltb at 64) refl
+    stands_tells t = go at refl
       where
-        go : (b : Bool) → ltb at 64 ≡ b → cond b (same_host (records_of e) (records_of (entry_in (row_at z at)))) false ≡ true
-        go true q =
-            let h : at < 64 = ltb-true at 64 q in
-            let p : ◌≡◌ {A = Option Host} (some (host_of e)) (some (host_of other)) = sym t ∙ host h in
-            let r : host_of e ≡ host_of other = cc in
-            ap (λ (x : Entry). same_host (records_of e) (records_of x)) (row h) ∙ host_tells e other r
-        go false q =
-            let n : ¬ (at < 64) = λ h. true≢false (sym (lt-ltb at 64 h) ∙ q) in
-            absurd (some≢none (sym t ∙ not_found (zone_in z) g (name_of e.name) blank at found n))
+        go : (o : Option ℕ) → at ≡ o → same_at z e o ≡ true
+        go None q = absurd (some≢none (sym t ∙ not_found (zone_in z) g (name_of e.name) (sym found ∙ q)))
+        go (Some p) q =
+            let k : ◌≡◌ {A = Told Host} (some (host_of e)) (some (host_of (other p q))) = sym t ∙ host p q in
+            let r : host_of e ≡ host_of (other p q) = cc in
+            ap (λ (x : Entry). same_host (records_of e) (records_of x)) (row p q) ∙ host_tells e (other p q) r
 
   -- what stands at a key among the places stands there in the zone
   abbrev pub Has : List Entry → Type 0

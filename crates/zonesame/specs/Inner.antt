@@ -1,5 +1,5 @@
 -- What inner functions promise. No promise of an exported call cites these.
-use Rattle.std.specs.Prelude.{◌≡◌, Bool, true, false, cond, ◌&&◌, List, [], ◌∷◌, ℕ, ◌≤◌, ◌<◌, eqb, ltb, length, get_or, Option, MatchOption}
+use Rattle.std.specs.Prelude.{◌≡◌, Bool, true, false, cond, ◌&&◌, List, [], ◌∷◌, ℕ, ◌<◌, eqb, length, get_or, Option, Some, None}
 use Rattle.octets.specs.Compare.{same_octets}
 use Rattle.octets.specs.Count.{Octets}
 use Rattle.addresses.specs.Addresses.{list4, list6, within}
@@ -15,10 +15,6 @@ use Rattle.lentzone.specs.Inner.{place_in, row_at, records_at, name_at}
 pub record Tells (claim : Type 0) (r : Bool) : Type 0 where
   pub told : r ≡ true → claim
   pub tells : claim → r ≡ true
-
--- a place, none where it is 64 or more
-abbrev pub At : ℕ → Option ℕ → Type 0
-At place r = MatchOption r (64 ≤ place) (λ p. (p ≡ place) × (p < 64))
 
 -- ---- the fingerprints of names
 
@@ -51,9 +47,14 @@ same_place a b = eqb (get_or a 0 0) (get_or b 0 0) && same_octets (part 257 117 
 
 -- ---- all that stands in a zone
 
+-- what stands at a place of the zone that the octets hold is the same; nothing is where there is no place
+abbrev pub same_at : List ℕ → Entry → Option ℕ → Bool
+same_at z e None = false
+same_at z e (Some place) = same_host (records_of e) (records_at z place)
+
 -- what stands at a place stands at its name in the zone that the octets hold
 unfoldable pub stands_in : List ℕ → Entry → Bool
-stands_in z e = cond (ltb (place_in z (name_of e.name)) 64) (same_host (records_of e) (records_at z (place_in z (name_of e.name)))) false
+stands_in z e = same_at z e (place_in z (name_of e.name))
 
 -- so it is at every used place
 unfoldable pub all_stand : List ℕ → List Entry → Bool

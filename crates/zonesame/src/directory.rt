@@ -5,7 +5,7 @@ ghost use Rattle.dname.specs.Name.{name_of};
 ghost use Rattle.zone.specs.Survey.{fingerprint_words};
 ghost use Rattle.lentzone.specs.Decode.{entry_in, is_zone};
 ghost use Rattle.lentzone.specs.Inner.{place_in};
-ghost use Rattle.zonesame.specs.Inner.{Fingerprints, At, spelled_so};
+ghost use Rattle.zonesame.specs.Inner.{Fingerprints, spelled_so};
 
 use crate::places;
 use crate::places::Place;
@@ -64,7 +64,7 @@ impl<'a> Directory<'a> {
 
     // The place of a name; none where it is absent.
     fn search(&self, n: &[u8]) -> Option<usize>
-        ensures { At (place_in self.now.zone.now n.now) result }
+        ensures { result ≡ place_in self.now.zone.now n.now }
     {
         let own = fingerprint::fingerprint(n);
         for place in (0..64).rev() {
@@ -79,7 +79,7 @@ impl<'a> Directory<'a> {
     // that number first: no name stands in a zone twice.
     pub(crate) fn place_of(&self, n: &[u8], place: usize) -> Option<usize>
         requires { place < 64 }
-        ensures { At (place_in self.now.zone.now n.now) result }
+        ensures { result ≡ place_in self.now.zone.now n.now }
     {
         if is_spelled(places::place_of(self.zone, place), n) {
             return Some(place);

@@ -6,4 +6,4 @@ use Rattle.request.proofs.jespurla_request_remove_name.Goals as goal
 pub returns : goal.returns
 returns c =
     let a = c.args in
-    c.send.ensures (λ n. remove_name (update_of n a.dhcid a.family a.address)) (λ s e w p. search rules)
+    c.send.ensures (λ n. remove_name (update_of n a.dhcid a.family a.address)) (λ o w p. search rules)

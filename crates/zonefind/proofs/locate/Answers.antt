@@ -18,4 +18,4 @@ returns c =
     let s = c.survey_in-s in
     let e : refused c.check.result ≡ find_refusal c.args.octets.now c.args.name.now = c.check.ensures ∙ refusal_is_lem _ _ _ _ (survey_zone _ _ _ s.ensures) c.is_full_name.ensures in
     let r : 0 ≡ refused c.check.result = grind (arith, common_steps) in
-    rw c.then_some.ensures (located _ _ s.result s.ensures (r ∙ e))
+    located _ _ s.result s.ensures (r ∙ e)

@@ -16,4 +16,4 @@ unfolding number_of
 returns-in-Writes c =
     let a = c.args in
     let v = c.in-Ok.ensures in
-    rw c.says-in-Writes.ensures (promised_adds a.octets.now a.name a.family 0 c.in-Ok.s (v.surveyed _ refl) (sym v.refusal_is) (λ n. request_a (update_of n a.dhcid a.family a.address)) _ _ c.in-Writes.ensures c.write_entry.ensures)
+    rw c.says-in-Writes.ensures (promised_adds a.octets.now a.name a.family 0 c.in-Ok.s (v.surveyed _ refl) (sym v.refusal_is) (λ n. request_a (update_of n a.dhcid a.family a.address)) _ _ _ c.in-Writes.ensures c.write_entry.ensures)

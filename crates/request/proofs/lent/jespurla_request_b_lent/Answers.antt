@@ -6,4 +6,4 @@ use Rattle.request.proofs.lent.jespurla_request_b_lent.Goals as goal
 pub returns : goal.returns
 returns c =
     let a = c.args in
-    c.send.ensures (λ n. request_b (policy_of a.policy) (update_of n a.dhcid a.family a.address)) (λ s e w p. search rules)
+    c.send.ensures (λ n. request_b (policy_of a.policy) (update_of n a.dhcid a.family a.address)) (λ o w p. search rules)

@@ -1,9 +1,11 @@
 use Rattle.std.proofs.Common.{◌≡◌, ℕ, ◌<◌, ◌≤◌, true, not, length, get_or, sym, ap, ◌∙◌, arith, eq-eqb, ne_eqb}
+use Rattle.std.specs.Prelude.{Option}
+use Rattle.std.specs.Option.{unwrap_or}
 use Rattle.octets.specs.Count.{distinct}
 use Rattle.dname.specs.Name.{name_of, is_full}
 use Rattle.zone.specs.Meaning.{used as is_used, keys}
 use Rattle.zone.proofs.WalkLaws.{walk_free, walk_used, walk_clear, walk_end}
-use Rattle.zone.proofs.SurveyLaws.{blank, order_used, named_used, chosen_found, get_d_any}
+use Rattle.zone.proofs.SurveyLaws.{blank, order_used, named_used, get_d_any}
 use Rattle.zone.proofs.survey.survey_of.Goals as goal
 use Rattle.zone.proofs.survey.survey_of.Goals.{then-not-repeats, else-not-repeats}
 
@@ -36,5 +38,7 @@ returns c =
     elim c.if-not-repeats.branch [ then-not-repeats w ↦ w.distinct-is ∙ ap not w.if-not-repeats.true ∙ sym (clear (sym c.repeats-repeats.ensures ∙ w.if-not-repeats.true)) | else-not-repeats w ↦ w.distinct-is ∙ w.distinct_names-distinct.ensures ] in
     record {
       surveyed = walk_end es (name_of c.args.n.now) l.fingerprints l.used l.inorder l.found l.free l.i l.invariant h _ apart;
-      entry_is = λ d f. ap (λ (m : ℕ). get_or es m blank) (c.choose-at.ensures ∙ chosen_found l.found f) ∙ get_d_any es l.found blank d (let w = l.invariant in omega arith);
+      entry_is = λ d p f.
+          let w = l.invariant in
+          ap (λ (m : ℕ). get_or es m blank) (c.unwrap_or.ensures ∙ ap (λ (o : Option ℕ). unwrap_or o 0) f) ∙ get_d_any es p blank d (omega (arith, w.inside p f));
     }

@@ -15,4 +15,4 @@ returns-then-is_spelled c =
     let n = c.args.n.now in
     let place = c.args.place in
     let e = ap (λ (l : List ℕ). spelled_so n (entry_in l)) (sym c.place_of.ensures) ∙ sym c.is_spelled.ensures ∙ c.if-is_spelled.true in
-    (only_place z n c.args.self.now.has_form place c.requires (spelled_named n (entry_in (row_at z place)) e), c.requires)
+    sym (only_place z n c.args.self.now.has_form place c.requires (spelled_named n (entry_in (row_at z place)) e))

@@ -17,7 +17,7 @@ returns-then-is_at c =
     let z = c.args.self.now.zone.now in
     let k : l.place - 1 < 64 = omega arith in
     let e = ap (named c.args.n.now) (sym (place_at z (l.place - 1) (zone_octets z c.args.self.now.has_form) k blank)) ∙ sym c.is_at.ensures in
-    (left_hit z c.args.n.now l.place (omega arith) l.invariant (e ∙ c.if-is_at.true), k)
+    sym (left_hit z c.args.n.now l.place (omega arith) l.invariant (e ∙ c.if-is_at.true))
 
 pub loop-place-preserved : goal.loop-place-preserved
 loop-place-preserved c =
@@ -33,6 +33,4 @@ loop-place-preserved c =
     ])
 
 pub returns : goal.returns
-returns c =
-    let e = left_end _ _ c.loop-place.place (omega arith) c.loop-place.invariant in
-    omega arith
+returns c = sym (left_end _ _ c.loop-place.place (omega arith) c.loop-place.invariant)
