@@ -5,7 +5,7 @@ ghost use Rattle.leasequery.specs.Stages.{other_of, active_of, concluded};
 
 use crate::LeaseAnswer;
 use clock::Moment;
-use lease::activity;
+use lease::{Lease, activity};
 use leasepacket::layout;
 use leasereply::reply::{self, Active};
 use leasetable::look::Found;
@@ -29,39 +29,37 @@ fn other(kind: u8, server: u32, query: &[u8], buf: &mut [u8]) -> LeaseAnswer
     replied(kind, reply::write_other(buf, kind, server, query))
 }
 
-// LEASEACTIVE, with the addresses of the first n ranks where they are two or more.
-fn active(f: &Found, n: usize, server: u32, query: &[u8], buf: &mut [u8]) -> LeaseAnswer
-    ensures { Gives (active_of f.now n server query.now buf.old) buf.old result buf.new }
+// LEASEACTIVE about a lease, with the addresses of the ranks found where they are two or more.
+fn active(clock: Moment, lease: &Lease, f: &Found, server: u32, query: &[u8], buf: &mut [u8]) -> LeaseAnswer
+    ensures { Gives (active_of clock lease.now f.now server query.now buf.old) buf.old result buf.new }
 {
     let told = Active {
-        clock: f.clock,
-        lease: f.best,
+        clock,
+        lease: *lease,
         ranks: &f.ranks,
-        n,
+        n: f.kept,
     };
     let len = reply::write_active(buf, server, query, told);
     replied(layout::DHCPLEASEACTIVE, len)
 }
 
-// The whole answer.
-pub fn conclude(f: &Found, server: u32, query: &[u8], buf: &mut [u8]) -> LeaseAnswer
-    ensures { Gives (concluded f.now server query.now buf.old) buf.old result buf.new }
+// The reply. What is found of a client is active; the record of an address may be free.
+#[tactic(auto, unfolding(crate::specs::Stages::concluded))]
+pub fn conclude(
+    f: &Found,
+    clock: Moment,
+    server: u32,
+    query: &[u8],
+    buf: &mut [u8],
+) -> LeaseAnswer
+    ensures { Gives (concluded clock f.now server query.now buf.old) buf.old result buf.new }
 {
-    if f.refusal != 0 {
-        return LeaseAnswer {
-            refusal: f.refusal,
-            kind: 0,
-            length: 0,
-        };
-    }
-    if f.best.address == 0 {
+    let Some(best) = &f.best else {
         return other(layout::DHCPLEASEUNKNOWN, server, query, buf);
+    };
+    if activity::is_active(best, clock) {
+        active(clock, best, f, server, query, buf)
+    } else {
+        other(layout::DHCPLEASEUNASSIGNED, server, query, buf)
     }
-    if f.kind != 1 {
-        return active(f, f.kept, server, query, buf);
-    }
-    if activity::is_active(&f.best, f.clock) {
-        return active(f, 0, server, query, buf);
-    }
-    other(layout::DHCPLEASEUNASSIGNED, server, query, buf)
 }

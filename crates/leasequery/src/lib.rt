@@ -34,6 +34,15 @@ pub fn jespurla_lease_query(
     ensures { LeasePromise clock table.now server query.now reply.old result reply.new }
 {
     let shape = scan(table, form::start(table.len()));
-    let found = look::look(table, ask::ask(clock, shape, query, reply.len()));
-    conclude::conclude(&found, server, query, reply)
+    match ask::ask(clock, shape, query, reply.len()) {
+        Ok(asked) => {
+            let found = look::look(table, clock, ask::key_for(query, asked));
+            conclude::conclude(&found, clock, server, query, reply)
+        }
+        Err(refusal) => LeaseAnswer {
+            refusal: u32::from(refusal),
+            kind: 0,
+            length: 0,
+        },
+    }
 }

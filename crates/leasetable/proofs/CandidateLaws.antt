@@ -1,10 +1,9 @@
--- What the two scans by client say of the whole table. Assumes nothing.
+-- What the scan by client says of the whole table. Assumes nothing.
 use mathlib.Core.Path.{◌≡◌, refl, sym, ◌∙◌, ap, subst}
-use mathlib.Core.Bool.{cond}
 use mathlib.Core.List.{List, [], ◌∷◌, ◌++◌, foldl, map}
 use Prim.Native.Nat.{ℕ, zero, suc, ◌+◌, ◌≤◌, min}
 use native.Mathlib.Omega.{arith}
-use lib.ListN.{length, take, drop, length-take, length-append, length-drop, length-map}
+use lib.ListN.{length, take, drop, length-take, length-append, length-drop, length-map, replicate, length-replicate}
 use lib.Seq.{take-take, take-append-le}
 use borrow.Table.Steps.{cases}
 use Rattle.clock.specs.declared.Moment.{Moment}
@@ -13,10 +12,9 @@ use Rattle.lease.specs.declared.Rank.{Rank}
 use Rattle.lease.specs.Lease.{rank_of, ranks_before}
 use Rattle.lease.proofs.ListLaws.{take_min}
 use Rattle.leasetable.specs.declared.client.Key.{Key}
-use Rattle.leasetable.specs.declared.candidates.Candidates.{Candidates}
-use Rattle.leasetable.specs.declared.associated.Associated.{Associated}
+use Rattle.leasetable.specs.declared.client.Client.{Client}
 use Rattle.leasetable.specs.Table.{those, placed}
-use Rattle.leasetable.specs.Folds.{placed_rank, inserted, wanted, noted, candidates_with, candidates_turn, associated_with, associated_turn}
+use Rattle.leasetable.specs.Folds.{placed_rank, inserted, wanted, no_rank, client_start, client_with, client_add, client_turn, client_in}
 use Rattle.leasetable.proofs.ClientLaws.{noted_is}
 
 -- ---- lists of ranks
@@ -96,66 +94,31 @@ reached_more p k ranks l x r =
 abbrev pub order : List Lease → List Lease → List Lease
 order l t = foldl (λ ys x. placed x ys) l t
 
--- ---- a scan by client, whatever else it carries
-pub record Carried : Type 0 where
-  pub refusal : ℕ
-  pub clock : Moment
-  pub key : Key
-  pub kept : ℕ
-  pub ranks : List Rank
-
-abbrev carried_with : Carried → ℕ → List Rank → Carried
-carried_with h kept ranks = record { refusal = h.refusal; clock = h.clock; key = h.key; kept = kept; ranks = ranks }
-
-pub record ClientReached (p n : ℕ) (clock : Moment) (key : Key) (h : Carried) (l : List Lease) : Type 0 where
-  pub refusal_is : h.refusal ≡ n
+-- ---- the scan by client
+pub record ClientReached (p : ℕ) (clock : Moment) (key : Key) (h : Client p) (l : List Lease) : Type 0 where
   pub clock_is : h.clock ≡ clock
   pub key_is : h.key ≡ key
   pub reached : Reached p h.kept h.ranks l
 
-module _ {A : Type 0} (p : ℕ) (of : A → Carried) (carry : A → ℕ → List Rank → A) (carries : (a : A) (k : ℕ) (l : List Rank) → of (carry a k l) ≡ carried_with (of a) k l) (n : ℕ) (clock : Moment) (key : Key) where
-  abbrev add : A → Lease → A
-  add a x = noted p (of a).kept (of a).ranks x (carry a) a
-
-  abbrev turn : A → Lease → A
-  turn a x = cond (wanted (of a).clock (of a).key x) (add a x) a
-
-  client_more : (a : A) (l : List Lease) (x : Lease) → ClientReached p n clock key (of a) l → ClientReached p n clock key (of (add a x)) (placed x l)
+module _ (p : ℕ) (clock : Moment) (key : Key) where
+  client_more : (a : Client p) (l : List Lease) (x : Lease) → ClientReached p clock key a l → ClientReached p clock key (client_add p a x) (placed x l)
   client_more a l x r =
-      let k = (of a).kept in
-      let h : k ≤ p = omega (arith, r.reached.kept_is) in
-      let m = inserted p k (rank_of x) (of a).ranks in
-      let e : of (add a x) ≡ carried_with (of a) (min (k + 1) p) m = ap of (noted_is p k (of a).ranks x (carry a) a h) ∙ carries a (min (k + 1) p) m in
-      subst (λ (g : Carried). ClientReached p n clock key g (placed x l)) (sym e) (record { refusal_is = r.refusal_is; clock_is = r.clock_is; key_is = r.key_is; reached = reached_more p k (of a).ranks l x r.reached })
+      let h : a.kept ≤ p = omega (arith, r.reached.kept_is) in
+      let e = noted_is p a.kept a.ranks x (client_with a) a h in
+      subst (λ (g : Client p). ClientReached p clock key g (placed x l)) (sym e) (record { clock_is = r.clock_is; key_is = r.key_is; reached = reached_more p a.kept a.ranks l x r.reached })
 
-  client_wants : (a : A) (l : List Lease) (x : Lease) → ClientReached p n clock key (of a) l → wanted (of a).clock (of a).key x ≡ wanted clock key x
-  client_wants a l x r = rw (r.key_is, r.clock_is)
+  wants_is : (a : Client p) (l : List Lease) (x : Lease) → ClientReached p clock key a l → wanted a.clock a.key x ≡ wanted clock key x
+  wants_is a l x r = rw (r.key_is, r.clock_is)
 
   -- the scan puts every active lease of the client in its place
-  client_fold : (t : List Lease) (a : A) (l : List Lease) → ClientReached p n clock key (of a) l → ClientReached p n clock key (of (foldl turn a t)) (order l (those (wanted clock key) t))
+  pub client_fold : (t : List Lease) (a : Client p) (l : List Lease) → ClientReached p clock key a l → ClientReached p clock key (foldl (client_turn p) a t) (order l (those (wanted clock key) t))
   unfolding those
   client_fold [] a l r = r
   client_fold (x ∷ xs) a l r =
       cases (wanted clock key x)
-      (λ w. rw (w, client_wants a l x r ∙ w) (client_fold xs (add a x) (placed x l) (client_more a l x r)))
-      (λ w. rw (w, client_wants a l x r ∙ w) (client_fold xs a l r))
+      (λ w. rw (w, wants_is a l x r ∙ w) (client_fold xs (client_add p a x) (placed x l) (client_more a l x r)))
+      (λ w. rw (w, wants_is a l x r ∙ w) (client_fold xs a l r))
 
--- ---- both scans
-abbrev of_candidates : Candidates → Carried
-of_candidates a = record { refusal = a.refusal; clock = a.clock; key = a.key; kept = a.kept; ranks = a.ranks }
-
-abbrev of_associated : Associated → Carried
-of_associated a = record { refusal = a.refusal; clock = a.clock; key = a.key; kept = a.kept; ranks = a.ranks }
-
-abbrev pub CandidatesReached : ℕ → Moment → Key → Candidates → List Lease → Type 0
-CandidatesReached n clock key a l = ClientReached 4 n clock key (of_candidates a) l
-
-abbrev pub AssociatedReached : ℕ → Moment → Key → Associated → List Lease → Type 0
-AssociatedReached n clock key a l = ClientReached 63 n clock key (of_associated a) l
-
-module _ (n : ℕ) (clock : Moment) (key : Key) (t : List Lease) where
-  pub candidates_fold : (a : Candidates) (l : List Lease) → CandidatesReached n clock key a l → CandidatesReached n clock key (foldl candidates_turn a t) (order l (those (wanted clock key) t))
-  candidates_fold a l r = client_fold 4 of_candidates candidates_with (λ a k l. refl) n clock key t a l r
-
-  pub associated_fold : (a : Associated) (l : List Lease) → AssociatedReached n clock key a l → AssociatedReached n clock key (foldl associated_turn a t) (order l (those (wanted clock key) t))
-  associated_fold a l r = client_fold 63 of_associated associated_with (λ a k l. refl) n clock key t a l r
+  -- so it does from its start
+  pub client_reached : (t : List Lease) → ClientReached p clock key (client_in p clock key t) (order [] (those (wanted clock key) t))
+  client_reached t = client_fold t (client_start p clock key) [] (record { clock_is = refl; key_is = refl; reached = reached_none p (replicate p no_rank) (length-replicate {A = Rank} p no_rank) })

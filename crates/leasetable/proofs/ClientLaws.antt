@@ -1,30 +1,30 @@
 -- The laws of a client's leases, one for each way out of a definition. Assumes nothing.
-use mathlib.Core.Path.{◌≡◌, sym, ◌∙◌, ap}
+use mathlib.Core.Path.{◌≡◌, refl, sym, ◌∙◌, ap}
 use mathlib.Core.Bool.{Bool, true, false, not, and-false, and-true}
 use mathlib.Core.List.{List}
 use Prim.Native.Nat.{ℕ, ◌+◌, ◌≤◌, ◌<◌, min}
-use native.Mathlib.Omega.{arith}
-use borrow.Author.Tests.{eq-eqb, ne_eqb, lt-ltb, le-ltb, not-true, not-false}
+use borrow.Author.Tests.{lt-ltb, le-ltb, not-true, not-false}
 use Rattle.clock.specs.declared.Moment.{Moment}
 use Rattle.lease.specs.declared.Lease.{Lease}
 use Rattle.lease.specs.declared.Rank.{Rank}
 use Rattle.lease.specs.Lease.{active_at, has_hardware, has_client_id, rank_of}
 use Rattle.leasetable.specs.declared.client.Key.{Key}
+use Rattle.leasetable.specs.declared.client.Key.TheVariants.{Address, Hardware, ClientId}
 use Rattle.leasetable.specs.Folds.{client_has, inserted, wanted, noted}
 
 -- ---- the key of the client
 module _ (k : Key) (x : Lease) where
-  pub client_by_hardware : k.kind ≡ 2 → has_hardware k.htype k.len k.octets x ≡ client_has k x
+  pub client_by_hardware : {htype hlen : ℕ} {octets : List ℕ} → k ≡ Hardware htype hlen octets → has_hardware htype hlen octets x ≡ client_has k x
   unfolding client_has
-  client_by_hardware e = rw (eq-eqb k.kind 2 e)
+  client_by_hardware e = rw e refl
 
-  pub client_by_id : k.kind ≡ 3 → has_client_id k.len k.octets x ≡ client_has k x
+  pub client_by_id : {len : ℕ} {octets : List ℕ} → k ≡ ClientId len octets → has_client_id len octets x ≡ client_has k x
   unfolding client_has
-  client_by_id e = rw (ne_eqb k.kind 2 (λ z. omega (arith, e, z)), eq-eqb k.kind 3 e)
+  client_by_id e = rw e refl
 
-  pub client_by_none : (k.kind ≡ 2 → ⊥) → (k.kind ≡ 3 → ⊥) → false ≡ client_has k x
+  pub client_by_none : {address : ℕ} → k ≡ Address address → false ≡ client_has k x
   unfolding client_has
-  client_by_none h i = rw (ne_eqb k.kind 2 h, ne_eqb k.kind 3 i)
+  client_by_none e = rw e refl
 
 -- ---- the leases that are noted; b is whether the lease has the key
 module _ (clock : Moment) (k : Key) (x : Lease) {b : Bool} (h : b ≡ client_has k x) where

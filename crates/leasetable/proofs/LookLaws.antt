@@ -1,27 +1,27 @@
 -- What the scans together say of the whole table. Assumes nothing.
-use mathlib.Core.Path.{◌≡◌, refl, sym, ◌∙◌, ap, subst}
-use mathlib.Core.Bool.{Bool, true, false, cond}
-use mathlib.Core.List.{List, [], ◌∷◌, foldl, map, head_d}
+use mathlib.Core.Path.{◌≡◌, refl, sym, ◌∙◌, ap}
+use mathlib.Core.Bool.{Bool, true, cond}
+use mathlib.Core.List.{List, [], ◌∷◌, ◌++◌, foldl, map, head_d}
 use Prim.Native.Nat.{ℕ, zero, suc, ◌≤◌, ◌<◌, min}
 use native.Mathlib.Omega.{arith}
-use lib.ListN.{length, take, get_or, set, length-map, length-replicate}
-use lib.Seq.{take_all}
+use lib.ListN.{length, take, drop, get_or, length-map, length-take}
+use lib.Seq.{take_all, take-take, take-append-le}
 use lib.Dec.{ltb, eqb}
 use borrow.Table.Steps.{cases}
-use borrow.Author.Tests.{eq-eqb, ne_eqb, eqb-true, eqb-false, ltb-true, ltb-false, le-ltb}
+use borrow.Author.Tests.{eq-eqb, ne_eqb, eqb-true, eqb-false, ltb-true, ltb-false}
+use Rattle.std.specs.Prelude.{Option, Some, None}
+use Rattle.octets.proofs.BoolLaws.{and_left}
 use Rattle.clock.specs.declared.Moment.{Moment}
 use Rattle.lease.specs.declared.Lease.{Lease}
 use Rattle.lease.specs.declared.Rank.{Rank}
-use Rattle.lease.specs.Lease.{no_lease, rank_of, ranks_before}
+use Rattle.lease.specs.Lease.{active_at, rank_of, ranks_before}
 use Rattle.leasetable.specs.declared.client.Key.{Key}
-use Rattle.leasetable.specs.declared.candidates.Candidates.{Candidates}
-use Rattle.leasetable.specs.declared.associated.Associated.{Associated}
 use Rattle.leasetable.specs.declared.record.Record.{Record}
 use Rattle.leasetable.specs.declared.look.Found.{Found}
 use Rattle.leasetable.specs.Table.{rises_from, those, placed}
-use Rattle.leasetable.specs.Folds.{wanted, candidates_turn, record_add, record_turn, no_rank, no_ranks, associated_at, associated_from, record_for, found, associated_in, record_in, looked}
+use Rattle.leasetable.specs.Folds.{Candidates, Associated, client_has, wanted, record_start, record_add, record_turn, record_in, no_rank, no_ranks, client_in, associated, found, found_from, by_client}
 use Rattle.leasetable.proofs.FormLaws.{rise_first, rise_rest}
-use Rattle.leasetable.proofs.CandidateLaws.{Reached, reached_none, order, CandidatesReached, candidates_fold, associated_fold}
+use Rattle.leasetable.proofs.CandidateLaws.{Reached, order, ClientReached, client_reached}
 
 -- ---- addresses that rise
 rises : (p : ℕ) (x : Lease) (xs : List Lease) → rises_from p (x ∷ xs) ≡ true → (p < x.address) × (rises_from x.address xs ≡ true)
@@ -38,9 +38,14 @@ none (x ∷ xs) p a e l =
     let n : x.address ≡ a → ⊥ = λ z. omega (arith, h.0, l, z) in
     rw (ne_eqb x.address a n) (none xs x.address a h.1 (omega (arith, h.0, l)))
 
+-- the first record, if there is one, else what there was before
+abbrev pub first_or : Option Lease → List Lease → Option Lease
+first_or before [] = before
+first_or before (x ∷ xs) = Some x
+
 -- the scan has the record of the address
-pub record_fold : (t : List Lease) (p : ℕ) (f : Record) → rises_from p t ≡ true → (foldl record_turn f t).best ≡ head_d (those (at f.address) t) f.best
-unfolding those head_d
+record_fold : (t : List Lease) (p : ℕ) (f : Record) → rises_from p t ≡ true → (foldl record_turn f t).best ≡ first_or f.best (those (at f.address) t)
+unfolding those
 record_fold [] p f e = refl
 record_fold (x ∷ xs) p f e =
     let h = rises p x xs e in
@@ -48,12 +53,15 @@ record_fold (x ∷ xs) p f e =
     (λ w.
     ap (λ (b : Bool). (foldl record_turn (cond b (record_add f x) f) xs).best) w
     ∙ record_fold xs x.address (record_add f x) h.1
-    ∙ ap (λ (l : List Lease). head_d l x) (none xs x.address f.address h.1 (omega (arith, eqb-true x.address f.address w)))
-    ∙ sym (ap (λ (b : Bool). head_d (cond b (x ∷ those (at f.address) xs) (those (at f.address) xs)) f.best) w))
+    ∙ ap (first_or (Some x)) (none xs x.address f.address h.1 (omega (arith, eqb-true x.address f.address w)))
+    ∙ sym (ap (λ (b : Bool). first_or f.best (cond b (x ∷ those (at f.address) xs) (those (at f.address) xs))) w))
     (λ w.
     ap (λ (b : Bool). (foldl record_turn (cond b (record_add f x) f) xs).best) w
     ∙ record_fold xs x.address f h.1
-    ∙ sym (ap (λ (b : Bool). head_d (cond b (x ∷ those (at f.address) xs) (those (at f.address) xs)) f.best) w))
+    ∙ sym (ap (λ (b : Bool). first_or f.best (cond b (x ∷ those (at f.address) xs) (those (at f.address) xs))) w))
+
+pub record_looked : (t : List Lease) (address : ℕ) → rises_from 0 t ≡ true → record_in address t ≡ first_or None (those (at address) t)
+record_looked t address e = record_fold t 0 (record_start address) e
 
 -- ---- every record is the only one of its address
 module _ (P : Lease → Type 0) where
@@ -98,58 +106,48 @@ first_of zero r y ys e = absurd (let z = ap length e in omega (arith, z))
 first_of (suc k) [] y ys e = absurd (let z = ap length e in omega (arith, z))
 first_of (suc k) (x ∷ xs) y ys e = ap (λ (l : List Rank). head_d l no_rank) e
 
-three : (r : List Rank) (k : ℕ) → length r ≡ 4 → k ≤ 3 → take k (set (set (set no_ranks 0 (get_or r 0 no_rank)) 1 (get_or r 1 no_rank)) 2 (get_or r 2 no_rank)) ≡ take k r
-three [] k e l = absurd (omega (arith, e))
-three (a ∷ []) k e l = absurd (omega (arith, e))
-three (a ∷ b ∷ []) k e l = absurd (omega (arith, e))
-three (a ∷ b ∷ c ∷ r) zero e l = refl
-three (a ∷ b ∷ c ∷ r) (suc zero) e l = refl
-three (a ∷ b ∷ c ∷ r) (suc (suc zero)) e l = refl
-three (a ∷ b ∷ c ∷ r) (suc (suc (suc zero))) e l = refl
-three (a ∷ b ∷ c ∷ r) (suc (suc (suc (suc k)))) e l = absurd (omega (arith, l))
+three : (r : List Rank) (k : ℕ) → length r ≡ 4 → k ≤ 3 → take k (take 3 r ++ drop 3 no_ranks) ≡ take k r
+three r k e l =
+    let m = length-take 3 r in
+    take-append-le k (take 3 r) (drop 3 no_ranks) (omega (arith, m, e, l)) ∙ take-take k 3 r l
 
-abbrev pub Above : List Lease → Type 0
-Above [] = Unit {0}
-Above (x ∷ xs) = 0 < x.address
-
--- the addresses of a table that rises are not zero
-pub above_those : (test : Lease → Bool) (t : List Lease) (p : ℕ) → rises_from p t ≡ true → Above (those test t)
+-- records that pass a test pass it
+passing : (test : Lease → Bool) (t : List Lease) → All (λ x. test x ≡ true) (those test t)
 unfolding those
-above_those test [] p e = tt
-above_those test (x ∷ xs) p e =
-    let h = rises p x xs e in
-    cases (test x) (λ w. rw w (omega (arith, h.0))) (λ w. rw w (above_those test xs x.address h.1))
+passing test [] = tt
+passing test (x ∷ xs) = cases (test x) (λ e. rw e (e, passing test xs)) (λ e. rw e (passing test xs))
 
-pub record Looked (n : ℕ) (clock : Moment) (kind : ℕ) (r : Found) (l : List Lease) : Type 0 where
-  pub refusal_is : r.refusal ≡ n
-  pub clock_is : r.clock ≡ clock
-  pub kind_is : r.kind ≡ kind
-  pub kept_is : r.kept ≡ min (length l) 63
-  pub ranks_are : take r.kept r.ranks ≡ take 63 (map rank_of l)
-  pub best_is : r.best ≡ head_d l no_lease
-  pub above : Above l
+abbrev pub Active : Moment → Lease → Type 0
+Active clock x = active_at clock x ≡ true
 
-module _ (n : ℕ) (clock : Moment) (key : Key) (t : List Lease) where
+-- What a look by client finds of its active leases, which are in the order of their ranks: the first, if there is one, and the ranks of the first 63.
+pub record Looked (clock : Moment) (r : Found) (l : List Lease) : Type 0 where
+  pub kept : ℕ
+  pub ranks : List Rank
+  pub found_is : r ≡ found kept ranks (first_or None l)
+  pub kept_is : kept ≡ min (length l) 63
+  pub ranks_are : take kept ranks ≡ take 63 (map rank_of l)
+  pub active : All (Active clock) l
+
+module _ (clock : Moment) (key : Key) (t : List Lease) where
   abbrev l₀ : List Lease
   l₀ = order [] (those (wanted clock key) t)
 
   -- the ranks, from the first four or from the second scan
   abbrev Ranked : Associated → Type 0
-  Ranked g = (g.refusal ≡ n) × (g.clock ≡ clock) × (g.key ≡ key) × (g.kept ≡ min (length l₀) 63) × (take g.kept g.ranks ≡ take 63 (map rank_of l₀))
+  Ranked g = (g.kept ≡ min (length l₀) 63) × (take g.kept g.ranks ≡ take 63 (map rank_of l₀))
 
-  ranked : (h : Candidates) → CandidatesReached n clock key h l₀ → Ranked (associated_in (associated_from h) t)
-  unfolding associated_from
+  ranked : (h : Candidates) → ClientReached 4 clock key h l₀ → Ranked (associated h t)
   ranked h r =
       cases (eqb h.kept 4)
-      (λ e. rw e (let g = associated_fold n clock key t (associated_at false h 0 no_ranks) [] (record { refusal_is = r.refusal_is; clock_is = r.clock_is; key_is = r.key_is; reached = reached_none 63 no_ranks (length-replicate {A = Rank} 63 no_rank) }) in
-      (g.refusal_is, g.clock_is, g.key_is, g.reached.kept_is, g.reached.ranks_are)))
+      (λ e. rw (e, r.clock_is, r.key_is) (let g = client_reached 63 clock key t in (g.reached.kept_is, g.reached.ranks_are)))
       (λ e.
       let k = r.reached.kept_is in
       let m = eqb-false h.kept 4 e in
       let s : h.kept ≤ 3 = few h.kept (length l₀) k m in
       let z : length l₀ ≤ 3 = fewer h.kept (length l₀) k m in
       let w = length-map l₀ rank_of in
-      rw e (r.refusal_is, r.clock_is, r.key_is, omega (arith, k, z), three h.ranks h.kept r.reached.places_are s ∙ r.reached.ranks_are ∙ take_all 4 (map rank_of l₀) (omega (arith, w, z)) ∙ sym (take_all 63 (map rank_of l₀) (omega (arith, w, z)))))
+      rw e (omega (arith, k, z), three h.ranks h.kept r.reached.places_are s ∙ r.reached.ranks_are ∙ take_all 4 (map rank_of l₀) (omega (arith, w, z)) ∙ sym (take_all 63 (map rank_of l₀) (omega (arith, w, z)))))
     where
       few : (k m : ℕ) → k ≡ min m 4 → (k ≡ 4 → ⊥) → k ≤ 3
       few k m e n = cases (ltb k 4) (λ t. omega (arith, ltb-true k 4 t)) (λ t. absurd (n (omega (arith, e, ltb-false k 4 t))))
@@ -158,23 +156,28 @@ module _ (n : ℕ) (clock : Moment) (key : Key) (t : List Lease) where
       fewer k m e n = let h = few k m e n in omega (arith, e, h)
 
   -- the record of the first rank
-  best : (h : Candidates) (l : List Lease) → (h.key.kind ≡ 1 → ⊥) → Reached 4 h.kept h.ranks l → All (Only 0 t) l → rises_from 0 t ≡ true → ((record_in (record_for h) t).best ≡ head_d l no_lease) × Above l
-  unfolding record_for head_d
-  best h [] c r a e =
+  best : (h : Candidates) (l : List Lease) → Reached 4 h.kept h.ranks l → All (Only 0 t) l → rises_from 0 t ≡ true → found_from h t ≡ found (associated h t).kept (associated h t).ranks (first_or None l)
+  best h [] r a e =
       let k : h.kept ≡ 0 = omega (arith, r.kept_is) in
-      (rw (ne_eqb h.key.kind 1 c, eq-eqb h.kept 0 k), tt)
-  best h (x ∷ xs) c r a e =
+      ap (λ (b : Bool). found (associated h t).kept (associated h t).ranks (cond b None (record_in (get_or h.ranks 0 no_rank).address t))) (eq-eqb h.kept 0 k)
+  best h (x ∷ xs) r a e =
       let k : h.kept ≡ 0 → ⊥ = λ z. omega (arith, r.kept_is, z) in
-      let f : Record = record { none = false; address = (get_or h.ranks 0 no_rank).address; best = no_lease } in
       let q : (get_or h.ranks 0 no_rank).address ≡ x.address = ap (λ (y : Rank). y.address) (first_of h.kept h.ranks (rank_of x) (take 3 (map rank_of xs)) r.ranks_are) in
-      (rw (ne_eqb h.key.kind 1 c, ne_eqb h.kept 0 k) (record_fold t 0 f e ∙ ap (λ (d : ℕ). head_d (those (at d) t) no_lease) q ∙ ap (λ (l : List Lease). head_d l no_lease) a.0.1), a.0.0)
+      let m : record_in (get_or h.ranks 0 no_rank).address t ≡ Some x = ap (λ (d : ℕ). record_in d t) q ∙ record_looked t x.address e ∙ ap (first_or None) a.0.1 in
+      ap (λ (b : Bool). found (associated h t).kept (associated h t).ranks (cond b None (record_in (get_or h.ranks 0 no_rank).address t))) (ne_eqb h.kept 0 k)
+      ∙ ap (found (associated h t).kept (associated h t).ranks) m
 
-  pub client_looked : (h : Candidates) → h.refusal ≡ n → h.clock ≡ clock → h.key ≡ key → Reached 4 h.kept h.ranks [] → 2 ≤ key.kind → rises_from 0 t ≡ true → Looked n clock key.kind (looked h t) l₀
-  unfolding looked found
-  client_looked h p c k r g e =
-      let o : ltb h.key.kind 2 ≡ false = le-ltb h.key.kind 2 (subst (λ (y : Key). 2 ≤ y.kind) (sym k) g) in
-      let u = candidates_fold n clock key t h [] (record { refusal_is = p; clock_is = c; key_is = k; reached = r }) in
-      let v = ranked (foldl candidates_turn h t) u in
-      let one : (foldl candidates_turn h t).key.kind ≡ 1 → ⊥ = λ z. (let s = ap (λ (y : Key). y.kind) u.key_is in omega (arith, s, z, g)) in
-      let w = best (foldl candidates_turn h t) l₀ one u.reached (all_order (Only 0 t) [] (those (wanted clock key) t) tt (all_those (Only 0 t) (wanted clock key) t (all_only t 0 e))) e in
-      rw o (record { refusal_is = v.0; clock_is = v.1; kind_is = ap (λ (y : Key). y.kind) v.2; kept_is = v.3; ranks_are = v.4; best_is = w.0; above = w.1 })
+  pub client_looked : rises_from 0 t ≡ true → Looked clock (by_client clock key t) l₀
+  unfolding by_client
+  client_looked e =
+      let h = client_in 4 clock key t in
+      let u = client_reached 4 clock key t in
+      let v = ranked h u in
+      record {
+        kept = (associated h t).kept;
+        ranks = (associated h t).ranks;
+        found_is = best h l₀ u.reached (all_order (Only 0 t) [] (those (wanted clock key) t) tt (all_those (Only 0 t) (wanted clock key) t (all_only t 0 e))) e;
+        kept_is = v.0;
+        ranks_are = v.1;
+        active = all_order (Active clock) [] (those (wanted clock key) t) tt (all_map (λ x. wanted clock key x ≡ true) (Active clock) (λ x w. and_left (active_at clock x) (client_has key x) w) (those (wanted clock key) t) (passing (wanted clock key) t));
+      }

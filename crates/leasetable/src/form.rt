@@ -8,11 +8,10 @@ use lease::{Lease, form};
 // The most records that a table has.
 const LONGEST_TABLE: usize = 256;
 
-// What is known of the records passed: whether the table may keep the form, and the last address.
+// The address of the last record passed, as long as the table may keep the form.
 #[derive(Clone, Copy)]
 pub struct Form {
-    pub ok: bool,
-    pub last: u32,
+    pub last: Option<u32>,
 }
 
 // Nothing is passed yet of a table of so many records; too many break the form.
@@ -20,8 +19,7 @@ pub fn start(count: usize) -> Form
     ensures { result ≡ form_start count }
 {
     Form {
-        ok: count <= LONGEST_TABLE,
-        last: 0,
+        last: (count <= LONGEST_TABLE).then_some(0),
     }
 }
 
@@ -34,18 +32,20 @@ impl Carried for Form {
 
     // No record is read of a table that has too many.
     fn is_off(&self) -> bool {
-        !self.ok
+        self.last.is_none()
     }
 
     // A table that was found to break its form is not looked at further.
     fn does_want(&self, x: &Lease) -> bool {
-        self.ok
+        self.last.is_some()
     }
 
     // One record more, whose address is above the last.
     #[tactic(auto, unfolding(crate::specs::Folds::form_add))]
     fn note(&mut self, x: &Lease) {
-        self.ok = self.last < x.address && form::is_well_formed(x);
-        self.last = if self.ok { x.address } else { 0 };
+        if let Some(last) = self.last {
+            let fits = last < x.address && form::is_well_formed(x);
+            self.last = fits.then_some(x.address);
+        }
     }
 }

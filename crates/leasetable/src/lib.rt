@@ -3,8 +3,6 @@
 
 #![tactic(auto)]
 
-pub mod associated;
-pub mod candidates;
 pub mod client;
 pub mod form;
 pub mod look;

@@ -1,111 +1,101 @@
 // The leases of a table that a query is about, in up to three scans.
 ghost use Rattle.std.specs.Prelude.{◌≡◌};
-ghost use Rattle.leasetable.specs.Folds.{associated_from, record_for, found, looked};
-ghost use Rattle.lease.specs.Lease.{no_lease};
+ghost use Rattle.leasetable.specs.Folds.{no_ranks, widened, associated, first_record, by_address, by_client, looked};
 
-use crate::associated::Associated;
-use crate::candidates::Candidates;
-use crate::record::Record;
+use crate::client::{self, Associated, Candidates, Client, Key};
+use crate::record;
 use crate::scanning::scan;
 use clock::Moment;
 use lease::{Lease, Rank};
 
-// What was found. By address, `best` is the record of that address; by client it is the active lease of
-// the client that ranks first, and `ranks` has the ranks of the first 63. Without one its address is 0.
+// What was found. By address, `best` is the record of that address, and no rank is kept; by client it is
+// the active lease of the client that ranks first, and `ranks` has the ranks of the first 63.
 #[derive(Clone, Copy)]
 pub struct Found {
-    // The refusal because of which nothing is looked for, or 0.
-    pub refusal: u32,
-    pub clock: Moment,
-    pub kind: u8,
+    pub best: Option<Lease>,
     pub kept: usize,
     pub ranks: [Rank; 63],
-    pub best: Lease,
 }
 
-// Where the client has less than four leases, all ranks are known.
-#[tactic(auto, unfolding(crate::specs::Folds::associated_from))]
-fn associated_from(four: &Candidates) -> Associated
-    ensures { result ≡ associated_from four.now }
+// No ranks.
+fn no_ranks() -> [Rank; 63]
+    ensures { result ≡ no_ranks }
 {
-    let blank = Rank {
+    [Rank {
         last: Moment(0),
         address: 0,
-    };
-    let known = four.kept != 4;
-    let mut ranks = [blank; 63];
-    if known {
-        ranks[..3].copy_from_slice(&four.ranks[..3]);
-    }
-    Associated {
-        known,
-        refusal: four.refusal,
+    }; 63]
+}
+
+// Of a client with fewer than four leases all ranks are known.
+fn widened(four: &Candidates) -> Associated
+    ensures { result ≡ widened four.now }
+{
+    let mut ranks = no_ranks();
+    ranks[..3].copy_from_slice(&four.ranks[..3]);
+    Client {
         clock: four.clock,
         key: four.key,
-        kept: if known { four.kept } else { 0 },
+        kept: four.kept,
         ranks,
     }
 }
 
-// The record that stands for none.
-#[tactic(auto, unfolding(lease::specs::Lease::no_lease))]
-fn no_lease() -> Lease
-    ensures { result ≡ no_lease }
+// The ranks of the client's first 63 leases. With four, the table is gone through again.
+fn associated(t: &[Lease], four: &Candidates) -> Associated
+    ensures { result ≡ associated four.now t.now }
 {
-    Lease {
-        last: Moment(0),
-        expiry: Moment(0),
-        chaddr: [0; 16],
-        id: [0; 64],
-        relay: [0; 64],
-        address: 0,
-        state: 0,
-        htype: 0,
-        hlen: 0,
-        idlen: 0,
-        relaylen: 0,
+    if four.kept == 4 {
+        scan(t, client::start(four.clock, four.key))
+    } else {
+        widened(four)
     }
 }
 
-// The address that is asked for, or that of the client's first lease.
-#[tactic(auto, unfolding(crate::specs::Folds::record_for))]
-fn record_for(four: &Candidates) -> Record
-    ensures { result ≡ record_for four.now }
+// The record of the client's first lease.
+fn first_record(t: &[Lease], four: &Candidates) -> Option<Lease>
+    ensures { result ≡ first_record four.now t.now }
 {
-    let by_address = four.key.kind == 1;
-    Record {
-        none: !by_address && four.kept == 0,
-        address: if by_address {
-            four.key.address as u64
-        } else {
-            four.ranks[0].address
-        },
-        best: no_lease(),
+    if four.kept == 0 {
+        return None;
     }
+    scan(t, record::start(four.ranks[0].address)).best
 }
 
-// All that was found.
-#[tactic(auto, unfolding(crate::specs::Folds::found))]
-fn found_by(all: &Associated, one: &Record) -> Found
-    ensures { result ≡ found all.now one.now }
+// The record of an address.
+#[tactic(auto, unfolding(crate::specs::Folds::by_address))]
+fn by_address(t: &[Lease], address: u32) -> Found
+    ensures { result ≡ by_address address t.now }
 {
     Found {
-        refusal: all.refusal,
-        clock: all.clock,
-        kind: all.key.kind,
+        best: scan(t, record::start(address as u64)).best,
+        kept: 0,
+        ranks: no_ranks(),
+    }
+}
+
+// The ranks of a client, and the record of the first.
+#[tactic(auto, unfolding(crate::specs::Folds::by_client))]
+fn by_client(t: &[Lease], clock: Moment, key: Key) -> Found
+    ensures { result ≡ by_client clock key t.now }
+{
+    let four: Candidates = scan(t, client::start(clock, key));
+    let all = associated(t, &four);
+    let ranks = all.ranks;
+    Found {
+        best: first_record(t, &four),
         kept: all.kept,
-        ranks: all.ranks,
-        best: one.best,
+        ranks,
     }
 }
 
 // What is looked for is found in a table.
 #[tactic(auto, unfolding(crate::specs::Folds::looked))]
-pub fn look(t: &[Lease], a: Candidates) -> Found
-    ensures { result ≡ looked a t.now }
+pub fn look(t: &[Lease], clock: Moment, key: Key) -> Found
+    ensures { result ≡ looked clock key t.now }
 {
-    let four = scan(t, a);
-    let all = scan(t, associated_from(&four));
-    let one = scan(t, record_for(&four));
-    found_by(&all, &one)
+    match key {
+        Key::Address(address) => by_address(t, address),
+        Key::Hardware { .. } | Key::ClientId { .. } => by_client(t, clock, key),
+    }
 }

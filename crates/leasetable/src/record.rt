@@ -1,15 +1,25 @@
 // The record of an address.
-ghost use Rattle.leasetable.specs.Folds.{record_off, record_wants, record_add};
+ghost use Rattle.std.specs.Prelude.{◌≡◌};
+ghost use Rattle.leasetable.specs.Folds.{record_start, record_off, record_wants, record_add};
 
 use crate::scanning::Carried;
 use lease::Lease;
 
-// The address that is looked for, unless none is, and its record, or one of the address 0.
+// The address that is looked for, and its record, if one is among those passed.
 #[derive(Clone, Copy)]
 pub struct Record {
-    pub none: bool,
     pub address: u64,
-    pub best: Lease,
+    pub best: Option<Lease>,
+}
+
+// No record is passed yet.
+pub fn start(address: u64) -> Record
+    ensures { result ≡ record_start address }
+{
+    Record {
+        address,
+        best: None,
+    }
 }
 
 impl Carried for Record {
@@ -19,9 +29,8 @@ impl Carried for Record {
 
     ghost add = { record_add };
 
-    // Whether no address is looked for.
     fn is_off(&self) -> bool {
-        self.none
+        false
     }
 
     // Whether a record has the address.
@@ -31,6 +40,6 @@ impl Carried for Record {
 
     // The record is kept.
     fn note(&mut self, x: &Lease) {
-        self.best = *x;
+        self.best = Some(*x);
     }
 }
