@@ -30,7 +30,14 @@ fn other(kind: u8, server: u32, query: &[u8], buf: &mut [u8]) -> LeaseAnswer
 }
 
 // LEASEACTIVE about a lease, with the addresses of the ranks found where they are two or more.
-fn active(clock: Moment, lease: &Lease, f: &Found, server: u32, query: &[u8], buf: &mut [u8]) -> LeaseAnswer
+fn active(
+    clock: Moment,
+    lease: &Lease,
+    f: &Found,
+    server: u32,
+    query: &[u8],
+    buf: &mut [u8],
+) -> LeaseAnswer
     ensures { Gives (active_of clock lease.now f.now server query.now buf.old) buf.old result buf.new }
 {
     let told = Active {
@@ -45,13 +52,7 @@ fn active(clock: Moment, lease: &Lease, f: &Found, server: u32, query: &[u8], bu
 
 // The reply. What is found of a client is active; the record of an address may be free.
 #[tactic(auto, unfolding(crate::specs::Stages::concluded))]
-pub fn conclude(
-    f: &Found,
-    clock: Moment,
-    server: u32,
-    query: &[u8],
-    buf: &mut [u8],
-) -> LeaseAnswer
+pub fn conclude(f: &Found, clock: Moment, server: u32, query: &[u8], buf: &mut [u8]) -> LeaseAnswer
     ensures { Gives (concluded clock f.now server query.now buf.old) buf.old result buf.new }
 {
     let Some(best) = &f.best else {
