@@ -1,5 +1,5 @@
 // What each family of addresses brings: its struct for an address, and that for a set of them.
-ghost use Rattle.std.specs.Prelude.{◌≡◌, ◌<◌, length, set};
+ghost use Rattle.std.specs.Prelude.{◌≡◌, length, set};
 ghost use Rattle.octets.specs.Count.{Octets};
 ghost use Rattle.addresses.specs.Addresses.{Counted};
 
@@ -24,8 +24,8 @@ pub trait Set: Copy {
     fn count(&self) -> u8
         ensures { result ≡ (counted self.now).count };
 
+    // Of four places; at another nothing is written.
     fn put(&mut self, place: usize, a: &Self::Addr)
-        requires { place < 4 }
         ensures { counted self.new ≡ record { items = set (counted self.old).items place a.now; count = (counted self.old).count } };
 
     fn keep(&mut self, count: u8)

@@ -52,7 +52,9 @@ impl Set for Set4 {
     }
 
     fn put(&mut self, place: usize, a: &Addr4) {
-        self.items[place] = *a;
+        if place < 4 {
+            self.items[place] = *a;
+        }
     }
 
     fn keep(&mut self, count: u8) {

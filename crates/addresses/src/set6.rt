@@ -52,7 +52,9 @@ impl Set for Set6 {
     }
 
     fn put(&mut self, place: usize, a: &Addr6) {
-        self.items[place] = *a;
+        if place < 4 {
+            self.items[place] = *a;
+        }
     }
 
     fn keep(&mut self, count: u8) {

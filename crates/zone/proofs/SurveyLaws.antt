@@ -1,5 +1,5 @@
 -- The laws of a walk over the places of a zone. Assumes nothing.
-use Rattle.std.proofs.Common.{◌≡◌, ℕ, zero, suc, ◌+◌, ◌<◌, ◌≤◌, Bool, true, false, cond, not, ◌&&◌, ◌||◌, leb, List, [], ◌∷◌, ◌++◌, map, length, get_or, take, drop, set, sym, refl, ap, ◌∙◌, true≢false, append_assoc, append-nil, add-zero, add-one, arith, drop_of_length-le, drop-cons, take-suc-set}
+use Rattle.std.proofs.Common.{◌≡◌, ℕ, zero, suc, ◌+◌, ◌<◌, ◌≤◌, Bool, true, false, cond, not, ◌&&◌, ◌||◌, ltb, leb, List, [], ◌∷◌, ◌++◌, map, length, get_or, take, drop, set, sym, refl, ap, ◌∙◌, true≢false, append_assoc, append-nil, add-zero, add-one, arith, drop_of_length-le, drop-cons, take-suc-set, ltb-true}
 use Rattle.std.specs.Prelude.{Option, Some, None}
 use Rattle.std.specs.List.{list_any}
 use lib.ListN.{length-map}
@@ -115,6 +115,13 @@ module _ (es : List Entry) (i : ℕ) (h : length es ≤ i) where
       sym (append-nil l) ∙ ap (λ (m : List ℕ). l ++ m) (sym e) ∙ q
 
 -- ---- the place that is read at the end
+
+pub chosen_below : (found : ℕ) → cond (ltb found 64) found 0 < 64
+chosen_below found = go (ltb found 64) refl
+  where
+    go : (b : Bool) → ltb found 64 ≡ b → cond b found 0 < 64
+    go true q = ltb-true found 64 q
+    go false q = omega arith
 
 pub get_d_any : {A : Type 0} (l : List A) (i : ℕ) (d e : A) → i < length l → get_or l i d ≡ get_or l i e
 get_d_any [] i d e h = absurd (omega arith)
