@@ -48,15 +48,15 @@ fn end_of(rest: &[u8]) -> Shape
     }
 }
 
-// A field where a label or the end is due.
-fn labels(field: &[u8]) -> Shape
-    ensures { result ≡ labels_of 0 field.now }
+// The rest of a field where a label or the end is due: one label and a shorter rest, or the end. The
+// octets left fall at each call.
+fn labels(rest: &[u8]) -> Shape
+    ensures { result ≡ labels_of 0 rest.now }
 {
-    let mut rest = field;
-    while let Some(behind) = behind_label(rest) {
-        rest = behind;
+    match behind_label(rest) {
+        Some(behind) => labels(behind),
+        None => end_of(rest),
     }
-    end_of(rest)
 }
 
 // What labels come to in a field of so many octets: a full name has at most 255, a partial one at
