@@ -9,9 +9,10 @@ use clock::Moment;
 const LEASED: u8 = 1;
 
 // Whether a lease is active at a moment.
+#[inline]
 #[tactic(auto, unfolding(crate::specs::Lease::active_at))]
-pub fn is_active(x: &Lease, clock: Moment) -> bool
-    ensures { result ≡ active_at clock x.now }
+pub fn is_active(x: Lease, clock: Moment) -> bool
+    ensures { result ≡ active_at clock x }
 {
     x.state == LEASED && clock::is_ahead(x.expiry, clock)
 }

@@ -53,9 +53,10 @@ fn do_moments_fit(last: Moment, expiry: Moment) -> bool
 }
 
 // Whether a record has the form of a lease.
+#[inline]
 #[tactic(auto, unfolding(crate::specs::Lease::well_formed))]
-pub fn is_well_formed(x: &Lease) -> bool
-    ensures { result ≡ well_formed x.now }
+pub fn is_well_formed(x: Lease) -> bool
+    ensures { result ≡ well_formed x }
 {
     x.state <= 1
         && do_lengths_fit(x.idlen, x.relaylen)

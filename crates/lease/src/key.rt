@@ -29,17 +29,19 @@ fn do_match(n: u8, a: &[u8], b: &[u8]) -> bool
 }
 
 // Whether a lease has a hardware address: a type and the first n of some octets.
+#[inline]
 #[tactic(auto, unfolding(crate::specs::Lease::has_hardware))]
-pub fn has_hardware(x: &Lease, htype: u8, n: u8, octets: &[u8; 64]) -> bool
-    ensures { result ≡ has_hardware htype n octets.now x.now }
+pub fn has_hardware(x: Lease, htype: u8, n: u8, octets: &[u8; 64]) -> bool
+    ensures { result ≡ has_hardware htype n octets.now x }
 {
     x.htype == htype && x.hlen == n && do_match(n, &x.chaddr, octets)
 }
 
 // Whether a lease has a client id: the first n of some octets.
+#[inline]
 #[tactic(auto, unfolding(crate::specs::Lease::has_client_id))]
-pub fn has_client_id(x: &Lease, n: u8, octets: &[u8; 64]) -> bool
-    ensures { result ≡ has_client_id n octets.now x.now }
+pub fn has_client_id(x: Lease, n: u8, octets: &[u8; 64]) -> bool
+    ensures { result ≡ has_client_id n octets.now x }
 {
     x.idlen == n && do_match(n, &x.id, octets)
 }

@@ -10,8 +10,9 @@ use crate::{Lease, Rank};
 use std::cmp::Ordering;
 
 // What a lease is ranked by.
-pub fn rank_of(x: &Lease) -> Rank
-    ensures { result ≡ rank_of x.now }
+#[inline]
+pub fn rank_of(x: Lease) -> Rank
+    ensures { result ≡ rank_of x }
 {
     Rank {
         last: x.last,
@@ -49,8 +50,8 @@ impl PartialOrd for Rank {
 
 // Whether one rank comes before another.
 #[tactic(auto, unfolding(crate::specs::Lease::ranks_before))]
-pub fn is_before(x: &Rank, y: &Rank) -> bool
-    ensures { result ≡ ranks_before x.now y.now }
+pub fn is_before(x: Rank, y: Rank) -> bool
+    ensures { result ≡ ranks_before x y }
 {
     x < y
 }

@@ -58,7 +58,7 @@ pub fn conclude(f: &Found, clock: Moment, server: u32, query: &[u8], buf: &mut [
     let Some(best) = &f.best else {
         return other(layout::DHCPLEASEUNKNOWN, server, query, buf);
     };
-    if activity::is_active(best, clock) {
+    if activity::is_active(*best, clock) {
         active(clock, best, f, server, query, buf)
     } else {
         other(layout::DHCPLEASEUNASSIGNED, server, query, buf)

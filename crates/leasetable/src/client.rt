@@ -27,8 +27,8 @@ impl Key {
     // Whether a lease has the client's key.
     #[inline(always)]
     #[tactic(auto, unfolding(crate::specs::Folds::client_has))]
-    fn is_of(&self, x: &Lease) -> bool
-        ensures { result ≡ client_has self.now x.now }
+    fn is_of(&self, x: Lease) -> bool
+        ensures { result ≡ client_has self.now x }
     {
         match self {
             Key::Address(_) => false,
@@ -44,8 +44,8 @@ impl Key {
     // Whether a record is an active lease of the client. Few have the key, so that is asked first. A
     // call for every record would cost more than the test.
     #[inline(always)]
-    fn wants(&self, clock: Moment, x: &Lease) -> bool
-        ensures { result ≡ wanted clock self.now x.now }
+    fn wants(&self, clock: Moment, x: Lease) -> bool
+        ensures { result ≡ wanted clock self.now x }
     {
         self.is_of(x) && activity::is_active(x, clock)
     }
@@ -93,12 +93,14 @@ impl<const N: usize> Carried for Client<N> {
         false
     }
 
-    fn does_want(&self, x: &Lease) -> bool {
+    #[inline]
+    fn does_want(&self, x: Lease) -> bool {
         self.key.wants(self.clock, x)
     }
 
+    #[inline]
     #[tactic(auto, unfolding(crate::specs::Folds::noted))]
-    fn note(&mut self, x: &Lease) {
+    fn note(&mut self, x: Lease) {
         if self.kept <= N {
             insert(&mut self.ranks, self.kept, order::rank_of(x));
             self.kept = (self.kept + 1).min(N);

@@ -36,13 +36,15 @@ impl Carried for Form {
     }
 
     // A table that was found to break its form is not looked at further.
-    fn does_want(&self, x: &Lease) -> bool {
+    #[inline]
+    fn does_want(&self, x: Lease) -> bool {
         self.last.is_some()
     }
 
     // One record more, whose address is above the last.
+    #[inline]
     #[tactic(auto, unfolding(crate::specs::Folds::form_add))]
-    fn note(&mut self, x: &Lease) {
+    fn note(&mut self, x: Lease) {
         if let Some(last) = self.last {
             let fits = last < x.address && form::is_well_formed(x);
             self.last = fits.then_some(x.address);

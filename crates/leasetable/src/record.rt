@@ -34,12 +34,14 @@ impl Carried for Record {
     }
 
     // Whether a record has the address.
-    fn does_want(&self, x: &Lease) -> bool {
+    #[inline]
+    fn does_want(&self, x: Lease) -> bool {
         x.address as u64 == self.address
     }
 
     // The record is kept.
-    fn note(&mut self, x: &Lease) {
-        self.best = Some(*x);
+    #[inline]
+    fn note(&mut self, x: Lease) {
+        self.best = Some(x);
     }
 }

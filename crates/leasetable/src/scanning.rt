@@ -20,11 +20,11 @@ pub trait Carried {
     fn is_off(&self) -> bool
         ensures { result ≡ off self.now };
 
-    fn does_want(&self, x: &Lease) -> bool
-        ensures { result ≡ wants self.now x.now };
+    fn does_want(&self, x: Lease) -> bool
+        ensures { result ≡ wants self.now x };
 
-    fn note(&mut self, x: &Lease)
-        ensures { self.new ≡ add self.old x.now };
+    fn note(&mut self, x: Lease)
+        ensures { self.new ≡ add self.old x };
 }
 
 // The records of a table, where anything is looked for.
@@ -35,8 +35,8 @@ pub fn scan<A: Carried>(t: &[Lease], mut a: A) -> A
         return a;
     }
     for x in t {
-        if a.does_want(x) {
-            a.note(x);
+        if a.does_want(*x) {
+            a.note(*x);
         }
     }
     a
