@@ -25,12 +25,12 @@ fn is_zero_from_6(s: &[u8; 16]) -> bool
 
 // A hardware address has at most 16 octets, with zeros behind them; one of none has type 0.
 #[tactic(auto, unfolding(crate::specs::Lease::hardware_fits))]
-fn does_hardware_fit(htype: u8, hlen: u8, chaddr: &[u8; 16]) -> bool
-    ensures { result ≡ hardware_fits htype hlen chaddr.now }
+fn does_hardware_fit(htype: u8, hlen: u8, chaddr: [u8; 16]) -> bool
+    ensures { result ≡ hardware_fits htype hlen chaddr }
 {
     match hlen {
-        0 => htype == 0 && is_zero(chaddr),
-        6 => is_zero_from_6(chaddr),
+        0 => htype == 0 && is_zero(&chaddr),
+        6 => is_zero_from_6(&chaddr),
         1..=16 => is_zero(&chaddr[hlen as usize..]),
         _ => false,
     }
@@ -61,5 +61,5 @@ pub fn is_well_formed(x: Lease) -> bool
     x.state <= 1
         && do_lengths_fit(x.idlen, x.relaylen)
         && do_moments_fit(x.last, x.expiry)
-        && does_hardware_fit(x.htype, x.hlen, &x.chaddr)
+        && does_hardware_fit(x.htype, x.hlen, x.chaddr)
 }

@@ -28,20 +28,23 @@ fn do_match(n: u8, a: &[u8], b: &[u8]) -> bool
         && (n <= LEADING || do_all_match(n, a, b))
 }
 
-// Whether a lease has a hardware address: a type and the first n of some octets.
+// Whether a lease has a hardware address: a type and the first n of some octets. Its own are taken out
+// of the record first, so that the compiler reads the rest of it where it lies in a table.
 #[inline]
 #[tactic(auto, unfolding(crate::specs::Lease::has_hardware))]
 pub fn has_hardware(x: Lease, htype: u8, n: u8, octets: &[u8; 64]) -> bool
     ensures { result ≡ has_hardware htype n octets.now x }
 {
-    x.htype == htype && x.hlen == n && do_match(n, &x.chaddr, octets)
+    let chaddr = x.chaddr;
+    x.htype == htype && x.hlen == n && do_match(n, &chaddr, octets)
 }
 
-// Whether a lease has a client id: the first n of some octets.
+// Whether a lease has a client id: the first n of some octets. Its own are taken out first here too.
 #[inline]
 #[tactic(auto, unfolding(crate::specs::Lease::has_client_id))]
 pub fn has_client_id(x: Lease, n: u8, octets: &[u8; 64]) -> bool
     ensures { result ≡ has_client_id n octets.now x }
 {
-    x.idlen == n && do_match(n, &x.id, octets)
+    let id = x.id;
+    x.idlen == n && do_match(n, &id, octets)
 }
