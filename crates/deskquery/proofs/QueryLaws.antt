@@ -62,7 +62,7 @@ accepts_room giaddr taken room e = ltb-false room 501 (go (eqb giaddr 0 || not t
     go true true e = absurd (omega arith)
     go false true e = absurd (omega arith)
 
-within_most : (n least most : ℕ) → (leb least n && leb n most) ≡ true → n ≤ most
+pub within_most : (n least most : ℕ) → (leb least n && leb n most) ≡ true → n ≤ most
 within_most n least most e = leb-true n most (and_right (leb least n) (leb n most) e)
 
 -- a key that is taken has so many octets at most
@@ -92,17 +92,17 @@ module _ (xid giaddr : ℕ) where
       let g = length_big_endian 4 giaddr in
       simp length-append (omega (arith, x, a, g))
 
-  address_short : (a : ℕ) → length (query_by xid giaddr (by_address a)) ≤ 501
+  pub address_short : (a : ℕ) → length (query_by xid giaddr (by_address a)) ≤ 501
   unfolding query_by
   address_short a = packet_short a 0 0 (replicate 16 0) [] zeros (omega arith)
 
-  hardware_short : (htype : ℕ) (octets : List ℕ) → length octets ≤ 16 → length (query_by xid giaddr (hardware_key htype octets)) ≤ 501
+  pub hardware_short : (htype : ℕ) (octets : List ℕ) → length octets ≤ 16 → length (query_by xid giaddr (hardware_key htype octets)) ≤ 501
   unfolding query_by hardware_key laid
   hardware_short htype octets h =
       let l : length (octets ++ drop (length octets) (replicate 16 0)) ≡ 16 = simp (length-append, length-drop, zeros) (omega arith) in
       packet_short 0 htype (length octets) (octets ++ drop (length octets) (replicate 16 0)) [] l (omega arith)
 
-  id_short : (id : List ℕ) → length id ≤ 255 → length (query_by xid giaddr (by_client_id id)) ≤ 501
+  pub id_short : (id : List ℕ) → length id ≤ 255 → length (query_by xid giaddr (by_client_id id)) ≤ 501
   unfolding query_by
   id_short id h = packet_short 0 0 0 (replicate 16 0) (option 61 id) zeros (omega arith)
 
@@ -146,22 +146,22 @@ module _ (giaddr : ℕ) (key : Asked) (room : ℕ) where
       go false true e = absurd (omega arith)
       go false false e = refl
 
--- a key that is handed in is no refusal
-key_refusal : (k : Key) → refusal_of (key_of k) ≡ 0
+-- a key that is handed in is no refusal, and no refusal has the number 0
+pub key_refusal : (k : Key) → refusal_of (key_of k) ≡ 0
 unfolding hardware_key
 key_refusal (Address a) = refl
 key_refusal (Hardware htype octets) = refl
 key_refusal (ClientId id) = refl
 
-module _ (xid giaddr : ℕ) (key : Asked) (before : List ℕ) where
-  pub promised_refusal : (r : Refusal) → number_of r ≡ first_refusal giaddr (is_key key) (length before) → QueryPromise xid giaddr key before (record { refusal = number_of r; length = 0 }) before
-  unfolding given query_by laid
-  promised_refusal r e = rw (asked_refused giaddr key (length before) (number_of r) e (not_zero r))
-    where
-      not_zero : (s : Refusal) → number_of s ≡ 0 → ⊥
-      not_zero NotTaken z = omega (arith, z)
-      not_zero NoRoom z = omega (arith, z)
+pub not_zero : (r : Refusal) → number_of r ≡ 0 → ⊥
+not_zero NotTaken z = omega (arith, z)
+not_zero NoRoom z = omega (arith, z)
 
-pub promised_query : (xid giaddr : ℕ) (k : Key) (before after : List ℕ) (n : ℕ) → first_refusal giaddr (is_key (key_of k)) (length before) ≡ 0 → Wrote (query_by xid giaddr (key_of k)) before n after → QueryPromise xid giaddr (key_of k) before (record { refusal = 0; length = n }) after
-unfolding given
-promised_query xid giaddr k before after n e w = rw (asked_key giaddr (key_of k) (length before) e, key_refusal k, w.answers, w.holds)
+module _ (xid giaddr : ℕ) (key : Asked) (before : List ℕ) where
+  pub promised_refusal : (n : ℕ) → n ≡ first_refusal giaddr (is_key key) (length before) → (n ≡ 0 → ⊥) → QueryPromise xid giaddr key before (record { refusal = n; length = 0 }) before
+  unfolding given query_by laid
+  promised_refusal n e h = rw (asked_refused giaddr key (length before) n e h)
+
+  pub promised_query : (after : List ℕ) (n : ℕ) → refusal_of key ≡ 0 → first_refusal giaddr (is_key key) (length before) ≡ 0 → Wrote (query_by xid giaddr key) before n after → QueryPromise xid giaddr key before (record { refusal = 0; length = n }) after
+  unfolding given
+  promised_query after n k e w = rw (asked_key giaddr key (length before) e, k, w.answers, w.holds)

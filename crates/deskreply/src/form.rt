@@ -78,14 +78,15 @@ fn has_fields(p: &[u8]) -> bool
         && number::octet_at(p, layout::HLEN) <= layout::LONGEST_HARDWARE
 }
 
-// Whether a packet is a well-formed reply.
+// Whether a packet is a well-formed reply. The fixed fields and the length are tested first, so that no
+// option is looked for in what is too long for a packet.
 #[tactic(auto, unfolding(crate::specs::Reply::is_reply))]
 pub fn is_reply(p: &[u8]) -> bool
     ensures { result ≡ is_reply p.now }
 {
+    if !has_fields(p) {
+        return false;
+    }
     let kind = kind_of(p);
-    has_fields(p)
-        && layout::DHCPLEASEUNASSIGNED <= kind
-        && kind <= layout::DHCPLEASEACTIVE
-        && has_all(p, kind)
+    layout::DHCPLEASEUNASSIGNED <= kind && kind <= layout::DHCPLEASEACTIVE && has_all(p, kind)
 }
