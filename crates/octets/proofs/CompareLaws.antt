@@ -3,12 +3,12 @@ use mathlib.Core.Path.{◌≡◌, refl, ap, ◌∙◌}
 use mathlib.Core.Bool.{Bool, true, false, ◌&&◌, and-false}
 use mathlib.Core.List.{List, [], ◌∷◌}
 use native.Mathlib.Omega.{arith}
-use Prim.Native.Nat.{ℕ, suc, ◌+◌, ◌<◌}
+use Prim.Native.Nat.{ℕ, suc, ◌+◌, ◌<◌, ◌≤◌}
 use native.Mathlib.Numerals.{add-one}
 use lib.Dec.{eqb}
-use lib.ListN.{length, get_or, drop}
+use lib.ListN.{length, get_or, drop, drop_of_length-le}
 use lib.Seq.{drop-cons}
-use borrow.Author.Tests.{eq-eqb, eqb-true}
+use borrow.Author.Tests.{eq-eqb, ne_eqb, eqb-true}
 use Rattle.std.specs.List.{fold, zip}
 use Rattle.octets.specs.Compare.{same_octets}
 
@@ -63,3 +63,14 @@ same_differ f a b h = go (same_octets a b) refl
 pub same_step : (a b : List ℕ) (i : ℕ) → i < length a → i < length b → same_octets (drop i a) (drop i b) ≡ (eqb (get_or a i 0) (get_or b i 0) && same_octets (drop (i + 1) a) (drop (i + 1) b))
 unfolding same_octets
 same_step a b i h k = rw (add-one, drop-cons a i 0 h, drop-cons b i 0 k)
+
+module _ (a b : List ℕ) (i : ℕ) (h : i < length a) (k : i < length b) where
+  pub same_unlike : (get_or a i 0 ≡ get_or b i 0 → ⊥) → same_octets (drop i a) (drop i b) ≡ false
+  same_unlike n = rw (same_step a b i h k, ne_eqb _ _ n)
+
+  pub same_alike : get_or a i 0 ≡ get_or b i 0 → same_octets (drop i a) (drop i b) ≡ same_octets (drop (i + 1) a) (drop (i + 1) b)
+  same_alike e = rw (same_step a b i h k, eq-eqb _ _ e)
+
+pub same_end : (a b : List ℕ) (i : ℕ) → length a ≤ i → length b ≤ i → same_octets (drop i a) (drop i b) ≡ true
+unfolding same_octets
+same_end a b i h k = rw (drop_of_length-le a h, drop_of_length-le b k)

@@ -5,8 +5,8 @@ use mathlib.Core.Path.{◌≡◌, refl, sym, ap, ap₂, ◌∙◌}
 use native.Mathlib.Omega.{arith}
 use native.Mathlib.Nat.{zero-add, add-zero}
 use native.Mathlib.Numerals.{add-one}
-use lib.ListN.{length, take, drop, set, length-append, length-drop, take-append-drop, replicate, length-replicate}
-use lib.Seq.{drop-append-add, drop-drop, set_split, length-take-le, take_at}
+use lib.ListN.{length, take, drop, set, get_or, length-append, length-drop, take-append-drop, replicate, length-replicate, replicate-append-replicate}
+use lib.Seq.{drop-append-add, drop-drop, set_split, length-take-le, take_at, take-suc}
 use borrow.Rule.Slice.PartMut.{put_mid, post_of, Post-is}
 use borrow.Author.Tests.{le-leb, lt-leb}
 use Rattle.octets.specs.Write.{put, laid, laid_at, next_at, Laid, Wrote, WroteIf}
@@ -57,6 +57,12 @@ put_more b ys zs l at i x n z h e =
     ∙ ap (λ (m : List ℕ). put m (at + i) (x ∷ [])) e
     ∙ put_put b at ys (x ∷ []) (at + i) (omega arith) (omega arith)
     ∙ ap (put b at) (sym z)
+
+pub copy_more : (b s l : List ℕ) (at i : ℕ) → at + length s ≤ length b → i < length s → l ≡ put b at (take i s) → set l (at + i) (get_or s i 0) ≡ put b at (take (i + 1) s)
+copy_more b s l at i h k e = put_more b (take i s) (take (i + 1) s) l at i (get_or s i 0) (length-take-le i s (omega arith)) (rw (add-one, take-suc s i 0)) (omega arith) e
+
+pub clear_more : (b l : List ℕ) (at n i : ℕ) → at + n ≤ length b → i < n → l ≡ put b at (replicate i 0) → set l (at + i) 0 ≡ put b at (replicate (i + 1) 0)
+clear_more b l at n i h k e = put_more b (replicate i 0) (replicate (i + 1) 0) l at i 0 (length-replicate i 0) (sym (replicate-append-replicate i 1 0)) (omega arith) e
 
 pub wrote_length : {b : List ℕ} {at : ℕ} {ys l : List ℕ} {n : ℕ} → Wrote b at ys l n → length l ≡ length b
 wrote_length {b} {at} {ys} {l} {n} w = ap length w.list ∙ length_put b at ys (omega arith)

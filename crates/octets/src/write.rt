@@ -20,7 +20,9 @@ pub fn put_octets(buf: &mut [u8], at: usize, src: &[u8]) -> usize
     let Some(end) = place_behind(buf.len(), at, src.len()) else {
         return at;
     };
-    buf[at..end].copy_from_slice(src);
+    for (i, x) in src.iter().enumerate() {
+        buf[at + i] = *x;
+    }
     end
 }
 
