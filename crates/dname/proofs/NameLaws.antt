@@ -1,9 +1,10 @@
 -- What a field is, by its length and its first octet; when two names are equal. Assumes nothing.
-use mathlib.Core.Path.{◌≡◌, refl}
+use mathlib.Core.Path.{◌≡◌, refl, ◌∙◌}
 use mathlib.Core.Bool.{true}
 use mathlib.Core.List.{List, [], ◌∷◌}
-use Prim.Native.Nat.{ℕ, zero, suc, ◌-◌, ◌≤◌, ◌<◌}
+use Prim.Native.Nat.{ℕ, zero, suc, ◌+◌, ◌-◌, ◌≤◌, ◌<◌}
 use native.Mathlib.Omega.{arith}
+use native.Mathlib.Numerals.{add-one}
 use lib.ListN.{length, get_or, take, drop, length-drop}
 use lib.Seq.{take_all}
 use borrow.Author.Tests.{lt-ltb, le-ltb, le-leb, lt-leb}
@@ -37,12 +38,40 @@ unfolding labels_of
 at_end [] h = refl
 at_end (x ∷ s) h = absurd (omega arith)
 
+-- the octet 0 there, and nothing behind it: the name is full
+pub at_root : (s : List ℕ) → length s ≡ 1 → get_or s 0 0 ≡ 0 → labels_of 0 s ≡ Full
+unfolding labels_of
+at_root [] h z = absurd (omega arith)
+at_root (zero ∷ []) h z = refl
+at_root (zero ∷ x ∷ s) h z = absurd (omega arith)
+at_root (suc n ∷ s) h z = absurd (omega arith)
+
+-- octets behind it
+pub past_root : (s : List ℕ) → 1 < length s → get_or s 0 0 ≡ 0 → labels_of 0 s ≡ Malformed
+unfolding labels_of
+past_root [] h z = absurd (omega arith)
+past_root (zero ∷ []) h z = absurd (omega arith)
+past_root (zero ∷ x ∷ s) h z = refl
+past_root (suc n ∷ s) h z = absurd (omega arith)
+
 -- a length that no label has
 pub too_long : (s : List ℕ) → 0 < length s → 63 < get_or s 0 0 → labels_of 0 s ≡ Malformed
 unfolding labels_of
 too_long [] h z = absurd (omega arith)
 too_long (zero ∷ s) h z = absurd (omega arith)
 too_long (suc n ∷ s) h z = rw (labels_of, le-ltb n 63 (omega arith))
+
+-- a label of which octets are missing
+pub too_short : (s : List ℕ) → 0 < get_or s 0 0 → get_or s 0 0 ≤ 63 → length s ≤ get_or s 0 0 → labels_of 0 s ≡ Malformed
+too_short [] p h z = absurd (omega arith)
+too_short (zero ∷ s) p h z = absurd (omega arith)
+too_short (suc n ∷ s) p h z = begun n s (omega arith) ∙ cut (suc n) s (omega arith)
+
+-- a whole label
+pub one_label : (s : List ℕ) → 0 < get_or s 0 0 → get_or s 0 0 ≤ 63 → get_or s 0 0 < length s → labels_of 0 s ≡ labels_of 0 (drop (get_or s 0 0 + 1) s)
+one_label [] p h z = absurd (omega arith)
+one_label (zero ∷ s) p h z = absurd (omega arith)
+one_label (suc n ∷ s) p h z = rw add-one (begun n s (omega arith) ∙ skip (suc n) s (omega arith))
 
 -- a part of a slice that reaches to its end
 pub part_rest : (s : List ℕ) (a : ℕ) → take (length s - a) (drop a s) ≡ drop a s
@@ -83,6 +112,10 @@ limited_full n h = rw (limited, le-leb n 255 h)
 pub limited_partial : (n : ℕ) → n ≤ 254 → limited Partial n ≡ Partial
 unfolding limited
 limited_partial n h = rw (limited, le-leb n 254 h)
+
+pub partial_over : (n : ℕ) → 254 < n → limited Partial n ≡ Malformed
+unfolding limited
+partial_over n h = rw (limited, lt-leb n 254 h)
 
 pub shape_over : (s : List ℕ) → 255 < length s → shape_of s ≡ Malformed
 unfolding shape_of

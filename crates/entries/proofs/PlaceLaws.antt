@@ -41,6 +41,17 @@ module _ {E : Type 0} where
   pub replaced_length : (k : ℕ) (e : E) (l : List E) → k < length l → length (replace_at k e l) ≡ length l
   replaced_length k e l h = omega (arith, length-append (take k l) (e ∷ drop (suc k) l), length-take-le k l (omega arith), length-drop (suc k) l)
 
+  -- an entry written is one put in and the one behind it taken out, or the one there taken out and one put in
+  set_out : (n : ℕ) (x : E) (l : List E) → n < length l → remove_at (suc n) (insert_at n x l) ≡ set l n x
+  set_out n x [] h = absurd (omega arith)
+  set_out zero x (e ∷ l) h = refl
+  set_out (suc n) x (e ∷ l) h = ap (λ (r : List E). e ∷ r) (set_out n x l (omega arith))
+
+  set_in : (n : ℕ) (x : E) (l : List E) → n < length l → set l n x ≡ insert_at n x (remove_at n l)
+  set_in n x [] h = absurd (omega arith)
+  set_in zero x (e ∷ l) h = refl
+  set_in (suc n) x (e ∷ l) h = ap (λ (r : List E). e ∷ r) (set_in n x l (omega arith))
+
   -- the entries behind a place moved up by one, as far as a place that is then written
   moved_first : (l : List E) (x : E) (n : ℕ) (e : E) → n ≤ length l → set (take n l ++ drop n (x ∷ l)) n e ≡ take n l ++ (e ∷ drop n l)
   moved_first l x zero e h = refl

@@ -134,3 +134,7 @@ pub ends_short : (w : List ℕ) → length w < 2 → Ends w
 ends_short [] h = record { whole = whole_end; none = λ _. options_end }
 ends_short (t ∷ []) h = ends_zero (t ∷ []) (omega arith) refl
 ends_short (t ∷ u ∷ s) h = absurd (omega arith)
+
+pub positive : (n : ℕ) → (n ≡ 0 → ⊥) → 0 < n
+positive zero h = absurd (h refl)
+positive (suc n) h = omega arith

@@ -11,6 +11,7 @@ use borrow.Author.Tests.{le-leb, lt-leb, eq-eqb, ne_eqb}
 use Rattle.clock.specs.declared.Moment.{Moment}
 use Rattle.clock.specs.declared.Span.{Span}
 use Rattle.entries.specs.Entries.{Kind, places, removed, named_all}
+use Rattle.entries.specs.declared.Moments.{Moments}
 use Rattle.entries.proofs.MarkLaws.{withdrawn_all, all_fits}
 use Rattle.serverlist.specs.Servers.{held, packed}
 use Rattle.serverlist.specs.declared.ServerList.{ServerList}
@@ -20,6 +21,7 @@ use Rattle.rdnss.specs.declared.Refusal.{Refusal}
 use Rattle.rdnss.specs.declared.Refusal.TheVariants.{NotSound, NotTimely, NoLifetime, NotWhole}
 use Rattle.rdnss.specs.Refusals.{number}
 use Rattle.rdnss.specs.ServerList.{servers_after, answer, first_refusal, refusal_of, server_list}
+use Rattle.rdnss.proofs.NamingLaws.{unmarked_items}
 
 -- an option names the addresses that count where it acts, and none where it does not
 pub named_none : (v : List ℕ) → is_acting v ≡ false → named_by v ≡ []
@@ -29,6 +31,11 @@ named_none v h = rw h
 pub named_if : (v : List ℕ) → is_acting v ≡ true → named_by v ≡ addresses v
 unfolding named_by
 named_if v h = rw h
+
+-- an option that names nothing changes nothing
+pub names_nothing : {K E : Type 0} (kind : Kind K E) (gone : Bool) (x : Moments) (l : List E) → named_all kind gone x [] l ≡ l
+unfolding named_all
+names_nothing kind gone x l = unmarked_items l
 
 module _ (clock : Moment) (router : Span) where
   pub option_fits : {K E : Type 0} (kind : Kind K E) (names : List ℕ → List K) (l : List E) (v : List ℕ) → length l ≤ places → length (option_applied clock router kind names l v) ≤ places
@@ -93,6 +100,9 @@ none_applies true true true false h = absurd (omega (arith, h, first_16 true tru
 none_applies true true false w h = absurd (omega (arith, h, first_router true true false w refl refl refl))
 none_applies true false l w h = absurd (omega (arith, h, first_15 true false l w refl refl))
 none_applies false t l w h = absurd (omega (arith, h, first_31 false t l w refl))
+
+pub first_same : {s t l w s' t' l' w' : Bool} → s ≡ s' → t ≡ t' → l ≡ l' → w ≡ w' → first_refusal s t l w ≡ first_refusal s' t' l' w'
+first_same a b c d = rw (a, b, c, d)
 
 -- a refusal has a number
 pub numbered : (r : Refusal) → number r ≡ 0 → ⊥
