@@ -151,16 +151,16 @@ module _ (p : List ℕ) where
   unfolding has_options
   has r = rw r.1
 
-  broken : options 0 (drop 240 p) ≡ none → has_options p ≡ false
+  pub faulty : options 0 (drop 240 p) ≡ none → has_options p ≡ false
   unfolding has_options
-  broken e = rw e
+  faulty e = rw e
 
   pub kind_fault : (f : Fault) → Err f ≡ occurrence 53 p → has_options p ≡ false
-  kind_fault Broken e = broken (says 53 (Err Broken) e)
+  kind_fault Broken e = faulty (says 53 (Err Broken) e)
   kind_fault Repeated e = let s = says 53 (Err Repeated) e in has s.0 ∙ rw (lt-leb (length (values_in 53 p)) 1 s.1)
 
   pub id_fault : (f : Fault) → Err f ≡ occurrence 61 p → has_options p ≡ false
-  id_fault Broken e = broken (says 61 (Err Broken) e)
+  id_fault Broken e = faulty (says 61 (Err Broken) e)
   id_fault Repeated e =
       let s = says 61 (Err Repeated) e in
       has s.0 ∙ rw (lt-leb (length (values_in 61 p)) 1 s.1) (and-false (leb (length (values_in 53 p)) 1))
