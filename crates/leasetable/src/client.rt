@@ -116,7 +116,7 @@ fn insert<const N: usize>(ranks: &mut [Rank; N], kept: usize, e: Rank)
 {
     let mut left = e;
     for place in ranks[..kept].iter_mut() {
-        if left < *place {
+        if order::is_before(left, *place) {
             mem::swap(place, &mut left);
         }
     }

@@ -1,19 +1,18 @@
 use Rattle.std.proofs.Common.{arith, ◌≡◌, ◌≤◌, ◌<◌, ◌∙◌, sym, length, length-take-le, slice_index_or}
 use Rattle.std.proofs.lemmas.List.{set-get_or}
-use Rattle.lease.proofs.OrderLaws.{lower_is}
 use Rattle.leasetable.specs.Folds.{no_rank}
 use Rattle.leasetable.proofs.InsertLaws.{place_swaps, place_goes_on, place_keeps, place_drops}
 use Rattle.leasetable.proofs.client.insert.Goals as goal
-use Rattle.leasetable.proofs.client.insert.Goals.{then-lt, else-lt}
+use Rattle.leasetable.proofs.client.insert.Goals.{then-is_before, else-is_before}
 
 pub loop-place-preserved : goal.loop-place-preserved
 loop-place-preserved g c =
     let l = c.loop-place in
     let h : l.place-index < length l.place-items = omega arith in
-    let e = lower_is l.left (slice_index_or l.place-items l.place-index no_rank) in
-    elim c.if-lt.branch [
-      | then-lt w ↦ (let q = place_swaps l.place-items l.left l.place-index h (sym e ∙ sym c.lt.ensures ∙ w.if-lt.true) in let a = w.left-is in let b = w.place-items-is in let d = w.swap.ensures.x_after in let f = w.swap.ensures.y_after in cc)
-      | else-lt w ↦ (let q = place_goes_on l.place-items l.left l.place-index h (sym e ∙ sym c.lt.ensures ∙ w.if-lt.false) in let a = w.left-is in let b = w.place-items-is ∙ set-get_or l.place-items l.place-index no_rank in cc)
+    let e = sym c.is_before.ensures in
+    elim c.if-is_before.branch [
+      | then-is_before w ↦ (let q = place_swaps l.place-items l.left l.place-index h (e ∙ w.if-is_before.true) in let a = w.left-is in let b = w.place-items-is in let d = w.swap.ensures.x_after in let f = w.swap.ensures.y_after in cc)
+      | else-is_before w ↦ (let q = place_goes_on l.place-items l.left l.place-index h (e ∙ w.if-is_before.false) in let a = w.left-is in let b = w.place-items-is ∙ set-get_or l.place-items l.place-index no_rank in cc)
     ]
 
 pub returns-then-kept : goal.returns-then-kept
