@@ -6,7 +6,6 @@ ghost use Rattle.leasequery.specs.Promise.{LeasePromise};
 
 use clock::Moment;
 use lease::Lease;
-use leasetable::scanning::scan;
 use leasetable::{form, look};
 
 pub mod ask;
@@ -33,7 +32,7 @@ pub fn jespurla_lease_query(
 ) -> LeaseAnswer
     ensures { LeasePromise clock table.now server query.now reply.old result reply.new }
 {
-    let shape = scan(table, form::start(table.len()));
+    let shape = form::scan(table, form::start(table.len()));
     match ask::ask(clock, shape, query, reply.len()) {
         Ok(asked) => {
             let found = look::look(table, clock, ask::key_for(query, asked));

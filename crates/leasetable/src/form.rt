@@ -1,6 +1,7 @@
 // Whether a lease table keeps its form.
-ghost use Rattle.std.specs.Prelude.{◌≡◌};
-ghost use Rattle.leasetable.specs.Folds.{form_start, form_off, form_wants, form_add};
+ghost use Rattle.std.specs.Prelude.{◌≡◌, cond};
+ghost use mathlib.Core.List.{foldl};
+ghost use Rattle.leasetable.specs.Folds.{form_start, form_off, form_wants, form_add, form_turn};
 
 use crate::scanning::Carried;
 use lease::{Lease, form};
@@ -23,6 +24,54 @@ pub fn start(count: usize) -> Form
     }
 }
 
+// No record is read of a table that has too many.
+fn is_off(a: Form) -> bool
+    ensures { result ≡ form_off a }
+{
+    a.last.is_none()
+}
+
+// A table that was found to break its form is not looked at further.
+fn does_want(a: Form, x: Lease) -> bool
+    ensures { result ≡ form_wants a x }
+{
+    a.last.is_some()
+}
+
+// One record more, whose address is above the last.
+#[tactic(auto, unfolding(crate::specs::Folds::form_add))]
+fn with_record(a: Form, x: Lease) -> Form
+    ensures { result ≡ form_add a x }
+{
+    let Some(last) = a.last else {
+        return a;
+    };
+    let fits = last < x.address && form::is_well_formed(x);
+    Form {
+        last: fits.then_some(x.address),
+    }
+}
+
+// The records of a table. This is the scan whose code the law of proofs/ScanWalk.antt walks.
+pub fn scan(t: &[Lease], a: Form) -> Form
+    ensures { result ≡ cond (form_off a) a (foldl form_turn a t.now) }
+{
+    if is_off(a) {
+        return a;
+    }
+    let mut acc = a;
+    let mut i = 0;
+    while i < t.len() {
+        let x = t[i];
+        i += 1;
+        if does_want(acc, x) {
+            acc = with_record(acc, x);
+        }
+    }
+    acc
+}
+
+// The form is carried by any other scan too.
 impl Carried for Form {
     ghost off = { form_off };
 
@@ -30,24 +79,15 @@ impl Carried for Form {
 
     ghost add = { form_add };
 
-    // No record is read of a table that has too many.
     fn is_off(&self) -> bool {
-        self.last.is_none()
+        is_off(*self)
     }
 
-    // A table that was found to break its form is not looked at further.
-    #[inline]
     fn does_want(&self, x: Lease) -> bool {
-        self.last.is_some()
+        does_want(*self, x)
     }
 
-    // One record more, whose address is above the last.
-    #[inline]
-    #[tactic(auto, unfolding(crate::specs::Folds::form_add))]
     fn note(&mut self, x: Lease) {
-        if let Some(last) = self.last {
-            let fits = last < x.address && form::is_well_formed(x);
-            self.last = fits.then_some(x.address);
-        }
+        *self = with_record(*self, x);
     }
 }
