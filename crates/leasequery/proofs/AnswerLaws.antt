@@ -26,15 +26,16 @@ use Rattle.leasetable.specs.declared.form.Form.{Form}
 use Rattle.leasetable.specs.declared.client.Key.{Key}
 use Rattle.leasetable.specs.declared.client.Key.TheVariants.{Hardware}
 use Rattle.leasetable.specs.declared.look.Found.{Found}
+use Rattle.leasetable.specs.declared.look.Found.TheVariants.{OfAddress}
 use Rattle.leasetable.specs.Table.{count_fits, table_fits, rises_from, those, placed, ranked}
-use Rattle.leasetable.specs.Folds.{form_start, form_from, form_of, client_has, no_ranks, found, by_client, looked}
+use Rattle.leasetable.specs.Folds.{form_start, form_from, form_of, client_has, found, by_client, looked_from, looked}
 use Rattle.leasetable.specs.Folds.{by_address as by_address_in}
 use Rattle.leasetable.proofs.FormLaws.{form_whole}
 use Rattle.leasetable.proofs.LookLaws.{Looked, client_looked, first_or, record_looked}
 use Rattle.leasereply.specs.Reply.{other_reply, active_reply, addresses_of, listed, fitting}
 use Rattle.leasequery.specs.Answer.{refusal, reply, has_key, by_address_of, by_client_of, leases_of, answer_by, asked_of, answer}
 use Rattle.leasequery.specs.Stages.{padded, id_key, key_for, asked_at, other_of, active_of, concluded}
-use Rattle.leasequery.proofs.StageLaws.{padded_laid, con_unknown, con_active, con_unassigned}
+use Rattle.leasequery.proofs.StageLaws.{padded_laid, con_unknown, con_client, con_nobody, con_active, con_unassigned}
 
 -- ---- keys
 padded_front : (o : List ℕ) (n : ℕ) → length o ≤ 64 → n ≤ length o → take n (padded o) ≡ take n o
@@ -69,8 +70,8 @@ module _ (clock : Moment) (server : ℕ) (ps os : List ℕ) (a : 240 ≤ length 
   other_is : (kind : ℕ) → other_of kind server ps os ≡ reply kind (other_reply kind server ps)
   other_is kind = ap (reply kind) (fit (other_reply kind server ps))
 
-  active_is : (x : Lease) (f : Found) (addresses : List ℕ) → listed f.kept f.ranks ≡ addresses → active_of clock x f server ps os ≡ reply 13 (active_reply clock server ps x addresses)
-  active_is x f addresses r = ap (reply 13) (fit (active_reply clock server ps x (listed f.kept f.ranks)) ∙ ap (active_reply clock server ps x) r)
+  active_is : (x : Lease) (n : ℕ) (ranks : List Rank) (addresses : List ℕ) → listed n ranks ≡ addresses → active_of clock x n ranks server ps os ≡ reply 13 (active_reply clock server ps x addresses)
+  active_is x n ranks addresses r = ap (reply 13) (fit (active_reply clock server ps x (listed n ranks)) ∙ ap (active_reply clock server ps x) r)
 
   -- ---- by client
   listed_one : (n : ℕ) (ranks : List Rank) → n ≡ 1 → listed n ranks ≡ []
@@ -84,12 +85,12 @@ module _ (clock : Moment) (server : ℕ) (ps os : List ℕ) (a : 240 ≤ length 
   client_out h [] r = ap (λ (o : Found). concluded clock o server ps os) r.found_is ∙ con_unknown clock server ps os r.kept r.ranks ∙ other_is 12
   client_out h (x ∷ []) r =
       ap (λ (o : Found). concluded clock o server ps os) r.found_is
-      ∙ con_active clock server ps os r.kept r.ranks x r.active.0
-      ∙ active_is x (found r.kept r.ranks (Some x)) [] (listed_one r.kept r.ranks (omega (arith, r.kept_is)))
+      ∙ con_client clock server ps os r.kept r.ranks x
+      ∙ active_is x r.kept r.ranks [] (listed_one r.kept r.ranks (omega (arith, r.kept_is)))
   client_out h (x ∷ y ∷ ys) r =
       ap (λ (o : Found). concluded clock o server ps os) r.found_is
-      ∙ con_active clock server ps os r.kept r.ranks x r.active.0
-      ∙ active_is x (found r.kept r.ranks (Some x)) (take 63 (map (λ z. z.address) (x ∷ y ∷ ys)))
+      ∙ con_client clock server ps os r.kept r.ranks x
+      ∙ active_is x r.kept r.ranks (take 63 (map (λ z. z.address) (x ∷ y ∷ ys)))
       (listed_more r.kept r.ranks (omega (arith, r.kept_is)) (omega (arith, r.kept_is)) ∙ ap addresses_of r.ranks_are ∙ map_take_addresses 63 (x ∷ y ∷ ys))
 
   by_client_lem : (key : Asked) (k : Key) → ((x : Lease) → client_has k x ≡ has_key key x) → (t : List Lease) → rises_from 0 t ≡ true → concluded clock (by_client clock k t) server ps os ≡ by_client_of clock server ps (ranked (leases_of clock server ps key t))
@@ -99,17 +100,17 @@ module _ (clock : Moment) (server : ℕ) (ps os : List ℕ) (a : 240 ≤ length 
       ∙ ap (λ (l : List Lease). by_client_of clock server ps (foldl (λ ys x. placed x ys) [] l)) (those_alike (λ x. active_at clock x && client_has k x) (λ x. active_at clock x && has_key key x) (λ x. ap (λ (w : Bool). active_at clock x && w) (e x)) t)
 
   -- ---- by address
-  address_out : (l : List Lease) → concluded clock (found 0 no_ranks (first_or None l)) server ps os ≡ by_address_of clock server ps l
+  address_out : (l : List Lease) → concluded clock (OfAddress (first_or None l)) server ps os ≡ by_address_of clock server ps l
   unfolding by_address_of
-  address_out [] = con_unknown clock server ps os 0 no_ranks ∙ other_is 12
+  address_out [] = con_nobody clock server ps os ∙ other_is 12
   address_out (x ∷ xs) =
       cases (active_at clock x)
-      (λ t. rw t (con_active clock server ps os 0 no_ranks x t ∙ active_is x (found 0 no_ranks (Some x)) [] refl))
-      (λ t. rw t (con_unassigned clock server ps os 0 no_ranks x t ∙ other_is 11))
+      (λ t. rw t (con_active clock server ps os x t ∙ active_is x 0 [] [] refl))
+      (λ t. rw t (con_unassigned clock server ps os x t ∙ other_is 11))
 
   by_address_lem : (a : ℕ) (t : List Lease) → rises_from 0 t ≡ true → concluded clock (by_address_in a t) server ps os ≡ by_address_of clock server ps (those (has_key (by_address a)) t)
   unfolding has_key by_address_in
-  by_address_lem a t f = ap (λ (o : Option Lease). concluded clock (found 0 no_ranks o) server ps os) (record_looked t a f) ∙ address_out (those (λ x. eqb x.address a) t)
+  by_address_lem a t f = ap (λ (o : Option Lease). concluded clock (OfAddress o) server ps os) (record_looked t a f) ∙ address_out (those (λ x. eqb x.address a) t)
 
 -- ---- the whole
 -- with a key, the buffer is long enough and the addresses rise
@@ -121,11 +122,11 @@ Ready room t (by_client_id octets) = (648 ≤ room) × (rises_from 0 t ≡ true)
 
 module _ (clock : Moment) (server : ℕ) (ps os : List ℕ) (t : List Lease) where
   by_id : (o : List ℕ) → Sound ps (by_client_id o) → Ready (length os) t (by_client_id o) → concluded clock (looked clock (id_key o) t) server ps os ≡ answer_by clock server ps (by_client_id o) t
-  unfolding answer_by looked id_key
+  unfolding answer_by looked looked_from by_client id_key
   by_id o s b = by_client_lem clock server ps os s b.0 (by_client_id o) (id_key o) (id_key_lem o) t b.1
 
   by_query : (q : Query) → Sound ps (asked_by ps q) → Ready (length os) t (asked_by ps q) → concluded clock (looked clock (key_for ps q) t) server ps os ≡ answer_by clock server ps (asked_by ps q) t
-  unfolding answer_by looked
+  unfolding answer_by looked looked_from by_client
   by_query (ByAddress a) s b = by_address_lem clock server ps os s b.0 a t b.1
   by_query (ByHardware htype hlen) s b = by_client_lem clock server ps os s.0 b.0 (by_hardware htype hlen (chaddr ps)) (Hardware htype hlen (padded (chaddr ps))) (λ x. hardware_key_lem htype hlen (chaddr ps) x s.1 s.2) t b.1
   by_query (ByClientId place) s b = by_id (part ps place.at place.len) s b

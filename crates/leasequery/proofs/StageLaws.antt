@@ -1,7 +1,7 @@
 -- The laws of what the functions below the exported call hand on. Assumes nothing.
 use Prim.Native.Nat.{ℕ, ◌≤◌, ◌<◌}
 use mathlib.Core.Path.{◌≡◌, refl, ap, ◌∙◌}
-use mathlib.Core.List.{List}
+use mathlib.Core.List.{List, []}
 use mathlib.Core.Bool.{Bool, true, false}
 use lib.ListN.{length, replicate}
 use borrow.Author.Tests.{lt-ltb, le-ltb}
@@ -18,6 +18,7 @@ use Rattle.leasepacket.proofs.ReadingLaws.{read_asks}
 use Rattle.lease.specs.declared.Lease.{Lease}
 use Rattle.lease.specs.declared.Rank.{Rank}
 use Rattle.leasetable.specs.Folds.{found}
+use Rattle.leasetable.specs.declared.look.Found.TheVariants.{OfAddress}
 use Rattle.leasequery.specs.Stages.{padded, asked_at, other_of, active_of, concluded}
 
 -- ---- octets with zeros behind them
@@ -35,15 +36,26 @@ unfolding asked_at first_of
 asked_read clock ok query room e m k h = ap (asked query) e ∙ read_asks query ∙ rw (m, k, le-ltb room 648 h)
 
 -- ---- the conclusion, by each way out of it
-module _ (clock : Moment) (server : ℕ) (query buffer : List ℕ) (kept : ℕ) (ranks : List Rank) where
-  pub con_unknown : concluded clock (found kept ranks None) server query buffer ≡ other_of 12 server query buffer
-  unfolding concluded
-  con_unknown = refl
+module _ (clock : Moment) (server : ℕ) (query buffer : List ℕ) where
+  -- of a client
+  module _ (kept : ℕ) (ranks : List Rank) where
+    pub con_unknown : concluded clock (found kept ranks None) server query buffer ≡ other_of 12 server query buffer
+    unfolding concluded
+    con_unknown = refl
 
-  pub con_active : (x : Lease) → active_at clock x ≡ true → concluded clock (found kept ranks (Some x)) server query buffer ≡ active_of clock x (found kept ranks (Some x)) server query buffer
+    pub con_client : (x : Lease) → concluded clock (found kept ranks (Some x)) server query buffer ≡ active_of clock x kept ranks server query buffer
+    unfolding concluded
+    con_client x = refl
+
+  -- of an address
+  pub con_nobody : concluded clock (OfAddress None) server query buffer ≡ other_of 12 server query buffer
+  unfolding concluded
+  con_nobody = refl
+
+  pub con_active : (x : Lease) → active_at clock x ≡ true → concluded clock (OfAddress (Some x)) server query buffer ≡ active_of clock x 0 [] server query buffer
   unfolding concluded
   con_active x a = rw a refl
 
-  pub con_unassigned : (x : Lease) → active_at clock x ≡ false → concluded clock (found kept ranks (Some x)) server query buffer ≡ other_of 11 server query buffer
+  pub con_unassigned : (x : Lease) → active_at clock x ≡ false → concluded clock (OfAddress (Some x)) server query buffer ≡ other_of 11 server query buffer
   unfolding concluded
   con_unassigned x a = rw a refl

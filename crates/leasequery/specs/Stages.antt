@@ -4,6 +4,7 @@ use Rattle.clock.specs.declared.Moment.{Moment}
 use Rattle.clock.specs.Clock.{is_moment}
 use Rattle.octets.specs.Write.{laid}
 use Rattle.lease.specs.declared.Lease.{Lease}
+use Rattle.lease.specs.declared.Rank.{Rank}
 use Rattle.lease.specs.Lease.{active_at}
 use Rattle.leasepacket.specs.declared.query.Query.{Query}
 use Rattle.leasepacket.specs.declared.query.Query.TheVariants.{ByAddress, ByHardware, ByClientId}
@@ -16,6 +17,7 @@ use Rattle.leasepacket.specs.Query.{Asked, refused, first_of, asking}
 use Rattle.leasetable.specs.declared.client.Key.{Key}
 use Rattle.leasetable.specs.declared.client.Key.TheVariants.{Address, Hardware, ClientId}
 use Rattle.leasetable.specs.declared.look.Found.{Found}
+use Rattle.leasetable.specs.declared.look.Found.TheVariants.{OfAddress, OfClient}
 use Rattle.leasereply.specs.Reply.{other_reply, active_reply, listed, fitting}
 use Rattle.leasequery.specs.Answer.{Outcome, reply}
 
@@ -50,17 +52,20 @@ abbrev pub asked_or_refused : List ℕ → Result Query Refusal → Asked
 asked_or_refused query (Ok q) = asked_by query q
 asked_or_refused query (Err r) = refused (number_of r)
 
--- the reply of a kind that tells of no lease, and that which tells of an active one, with the addresses of the ranks kept
+-- the reply of a kind that tells of no lease, and that which tells of an active one, with the addresses of the first n ranks
 abbrev pub other_of : ℕ → ℕ → List ℕ → List ℕ → Outcome
 other_of kind server query buffer = reply kind (fitting query buffer (other_reply kind server query))
 
-abbrev pub active_of : Moment → Lease → Found → ℕ → List ℕ → List ℕ → Outcome
-active_of clock x f server query buffer = reply 13 (fitting query buffer (active_reply clock server query x (listed f.kept f.ranks)))
+abbrev pub active_of : Moment → Lease → ℕ → List Rank → ℕ → List ℕ → List ℕ → Outcome
+active_of clock x n ranks server query buffer = reply 13 (fitting query buffer (active_reply clock server query x (listed n ranks)))
 
--- the answer from what was found
-abbrev pub concluded_by : Option Lease → Moment → Found → ℕ → List ℕ → List ℕ → Outcome
-concluded_by None clock f server query buffer = other_of 12 server query buffer
-concluded_by (Some x) clock f server query buffer = cond (active_at clock x) (active_of clock x f server query buffer) (other_of 11 server query buffer)
+-- about the record of an address, by whether it is active; it lists no addresses
+abbrev pub of_record : Lease → Moment → ℕ → List ℕ → List ℕ → Outcome
+of_record x clock server query buffer = cond (active_at clock x) (active_of clock x 0 [] server query buffer) (other_of 11 server query buffer)
 
+-- the answer from what was found; of a client, what is found is not asked whether it is active
 unfoldable pub concluded : Moment → Found → ℕ → List ℕ → List ℕ → Outcome
-concluded clock f server query buffer = concluded_by f.best clock f server query buffer
+concluded clock (OfAddress None) server query buffer = other_of 12 server query buffer
+concluded clock (OfAddress (Some x)) server query buffer = of_record x clock server query buffer
+concluded clock (OfClient None kept ranks) server query buffer = other_of 12 server query buffer
+concluded clock (OfClient (Some x) kept ranks) server query buffer = active_of clock x kept ranks server query buffer

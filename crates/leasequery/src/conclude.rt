@@ -1,11 +1,11 @@
 // The answer from what was found, and the reply.
 ghost use Rattle.std.specs.Prelude.{◌≡◌, ◌≤◌};
 ghost use Rattle.leasequery.specs.Promise.{Gives};
-ghost use Rattle.leasequery.specs.Stages.{other_of, active_of, concluded};
+ghost use Rattle.leasequery.specs.Stages.{other_of, active_of, of_record, concluded};
 
 use crate::LeaseAnswer;
 use clock::Moment;
-use lease::{Lease, activity};
+use lease::{Lease, Rank, activity};
 use leasepacket::layout;
 use leasereply::reply::{self, Active};
 use leasetable::look::Found;
@@ -29,38 +29,56 @@ fn other(kind: u8, server: u32, query: &[u8], buf: &mut [u8]) -> LeaseAnswer
     replied(kind, reply::write_other(buf, kind, server, query))
 }
 
-// LEASEACTIVE about a lease, with the addresses of the ranks found where they are two or more.
-fn active(
-    clock: Moment,
-    lease: &Lease,
-    f: &Found,
-    server: u32,
-    query: &[u8],
-    buf: &mut [u8],
-) -> LeaseAnswer
-    ensures { Gives (active_of clock lease.now f.now server query.now buf.old) buf.old result buf.new }
+// LEASEACTIVE about a lease, with the addresses of its client where there are two or more.
+fn active(told: Active, server: u32, query: &[u8], buf: &mut [u8]) -> LeaseAnswer
+    ensures { Gives (active_of told.entry.clock told.entry.lease told.entry.n told.entry.ranks.now server query.now buf.old) buf.old result buf.new }
 {
-    let told = Active {
-        clock,
-        lease: *lease,
-        ranks: &f.ranks,
-        n: f.kept,
-    };
     let len = reply::write_active(buf, server, query, told);
     replied(layout::DHCPLEASEACTIVE, len)
 }
 
-// The reply. What is found of a client is active; the record of an address may be free.
+// The reply about the record of an address, which may be free. It lists no addresses.
+fn of_record(lease: &Lease, clock: Moment, server: u32, query: &[u8], buf: &mut [u8]) -> LeaseAnswer
+    ensures { Gives (of_record lease.now clock server query.now buf.old) buf.old result buf.new }
+{
+    if !activity::is_active(*lease, clock) {
+        return other(layout::DHCPLEASEUNASSIGNED, server, query, buf);
+    }
+    let none = Rank {
+        last: Moment(0),
+        address: 0,
+    };
+    let told = Active {
+        clock,
+        lease: *lease,
+        ranks: &[none; 63],
+        n: 0,
+    };
+    active(told, server, query, buf)
+}
+
+// The reply. What is found of a client is active.
 #[tactic(auto, unfolding(crate::specs::Stages::concluded))]
 pub fn conclude(f: &Found, clock: Moment, server: u32, query: &[u8], buf: &mut [u8]) -> LeaseAnswer
     ensures { Gives (concluded clock f.now server query.now buf.old) buf.old result buf.new }
 {
-    let Some(best) = &f.best else {
-        return other(layout::DHCPLEASEUNKNOWN, server, query, buf);
-    };
-    if activity::is_active(*best, clock) {
-        active(clock, best, f, server, query, buf)
-    } else {
-        other(layout::DHCPLEASEUNASSIGNED, server, query, buf)
+    match f {
+        Found::OfAddress(Some(lease)) => of_record(lease, clock, server, query, buf),
+        Found::OfClient {
+            best: Some(lease),
+            kept,
+            ranks,
+        } => {
+            let told = Active {
+                clock,
+                lease: *lease,
+                ranks,
+                n: *kept,
+            };
+            active(told, server, query, buf)
+        }
+        Found::OfAddress(None) | Found::OfClient { best: None, .. } => {
+            other(layout::DHCPLEASEUNKNOWN, server, query, buf)
+        }
     }
 }

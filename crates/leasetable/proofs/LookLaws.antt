@@ -44,7 +44,7 @@ first_or before [] = before
 first_or before (x ∷ xs) = Some x
 
 -- the scan has the record of the address
-record_fold : (t : List Lease) (p : ℕ) (f : Record) → rises_from p t ≡ true → (foldl record_turn f t).best ≡ first_or f.best (those (at f.address) t)
+pub record_fold : (t : List Lease) (p : ℕ) (f : Record) → rises_from p t ≡ true → (foldl record_turn f t).best ≡ first_or f.best (those (at f.address) t)
 unfolding those
 record_fold [] p f e = refl
 record_fold (x ∷ xs) p f e =

@@ -13,6 +13,7 @@ use Rattle.leasetable.specs.declared.client.Key.TheVariants.{Address, Hardware, 
 use Rattle.leasetable.specs.declared.client.Client.{Client}
 use Rattle.leasetable.specs.declared.record.Record.{Record}
 use Rattle.leasetable.specs.declared.look.Found.{Found}
+use Rattle.leasetable.specs.declared.look.Found.TheVariants.{OfAddress, OfClient}
 use Rattle.leasetable.specs.Table.{count_fits}
 
 -- ---- the form of the table
@@ -164,11 +165,13 @@ associated four t = cond (eqb four.kept 4) (client_in 63 four.clock four.key t) 
 abbrev pub first_record : Candidates → List Lease → Option Lease
 first_record four t = cond (eqb four.kept 0) None (record_in (get_or four.ranks 0 no_rank).address t)
 
+-- of a client
 abbrev pub found : ℕ → List Rank → Option Lease → Found
-found kept ranks best = record { best = best; kept = kept; ranks = ranks }
+found kept ranks best = OfClient best kept ranks
 
+-- the record of an address
 unfoldable pub by_address : ℕ → List Lease → Found
-by_address address t = found 0 no_ranks (record_in address t)
+by_address address t = OfAddress (record_in address t)
 
 -- the ranks of the client, from its first four, with the record of the first
 abbrev pub found_from : Candidates → List Lease → Found
@@ -177,7 +180,15 @@ found_from four t = found (associated four t).kept (associated four t).ranks (fi
 unfoldable pub by_client : Moment → Key → List Lease → Found
 by_client clock key t = found_from (client_in 4 clock key t) t
 
+-- what is looked for, from candidates among records that were passed before
+abbrev pub looked_by : Key → Candidates → List Lease → Found
+looked_by (Address address) a t = by_address address t
+looked_by (Hardware htype hlen octets) a t = found_from (foldl (client_turn 4) a t) t
+looked_by (ClientId len octets) a t = found_from (foldl (client_turn 4) a t) t
+
+unfoldable pub looked_from : Candidates → List Lease → Found
+looked_from a t = looked_by a.key a t
+
+-- and from none
 unfoldable pub looked : Moment → Key → List Lease → Found
-looked clock (Address address) t = by_address address t
-looked clock (Hardware htype hlen octets) t = by_client clock (Hardware htype hlen octets) t
-looked clock (ClientId len octets) t = by_client clock (ClientId len octets) t
+looked clock key t = looked_from (client_start 4 clock key) t

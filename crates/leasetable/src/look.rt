@@ -1,6 +1,6 @@
 // The leases of a table that a query is about, in up to three scans.
 ghost use Rattle.std.specs.Prelude.{◌≡◌};
-ghost use Rattle.leasetable.specs.Folds.{no_ranks, widened, associated, first_record, by_address, by_client, looked};
+ghost use Rattle.leasetable.specs.Folds.{no_ranks, widened, associated, first_record, by_address, found_from, looked_from, looked};
 
 use crate::client::{self, Associated, Candidates, Client, Key};
 use crate::record;
@@ -8,13 +8,16 @@ use crate::scanning::scan;
 use clock::Moment;
 use lease::{Lease, Rank};
 
-// What was found. By address, `best` is the record of that address, and no rank is kept; by client it is
-// the active lease of the client that ranks first, and `ranks` has the ranks of the first 63.
+// What was found, by what was looked for. Of an address it is its record. Of a client, `best` is the
+// active lease that ranks first, and `ranks` has the ranks of the first 63.
 #[derive(Clone, Copy)]
-pub struct Found {
-    pub best: Option<Lease>,
-    pub kept: usize,
-    pub ranks: [Rank; 63],
+pub enum Found {
+    OfAddress(Option<Lease>),
+    OfClient {
+        best: Option<Lease>,
+        kept: usize,
+        ranks: [Rank; 63],
+    },
 }
 
 // No ranks.
@@ -67,25 +70,31 @@ fn first_record(t: &[Lease], four: &Candidates) -> Option<Lease>
 fn by_address(t: &[Lease], address: u32) -> Found
     ensures { result ≡ by_address address t.now }
 {
-    Found {
-        best: scan(t, record::start(address as u64)).best,
-        kept: 0,
-        ranks: no_ranks(),
-    }
+    Found::OfAddress(scan(t, record::start(address as u64)).best)
 }
 
-// The ranks of a client, and the record of the first.
-#[tactic(auto, unfolding(crate::specs::Folds::by_client))]
-fn by_client(t: &[Lease], clock: Moment, key: Key) -> Found
-    ensures { result ≡ by_client clock key t.now }
+// The ranks of a client, from its first four, and the record of the first.
+fn by_client(t: &[Lease], four: Candidates) -> Found
+    ensures { result ≡ found_from four t.now }
 {
-    let four: Candidates = scan(t, client::start(clock, key));
     let all = associated(t, &four);
     let ranks = all.ranks;
-    Found {
+    Found::OfClient {
         best: first_record(t, &four),
         kept: all.kept,
         ranks,
+    }
+}
+
+// What is looked for is found in a table, by a scan that goes on from what it is given: the candidates
+// among records that were passed before.
+#[tactic(auto, unfolding(crate::specs::Folds::looked_from))]
+pub fn look_from(t: &[Lease], a: Candidates) -> Found
+    ensures { result ≡ looked_from a t.now }
+{
+    match a.key {
+        Key::Address(address) => by_address(t, address),
+        Key::Hardware { .. } | Key::ClientId { .. } => by_client(t, scan(t, a)),
     }
 }
 
@@ -94,8 +103,5 @@ fn by_client(t: &[Lease], clock: Moment, key: Key) -> Found
 pub fn look(t: &[Lease], clock: Moment, key: Key) -> Found
     ensures { result ≡ looked clock key t.now }
 {
-    match key {
-        Key::Address(address) => by_address(t, address),
-        Key::Hardware { .. } | Key::ClientId { .. } => by_client(t, clock, key),
-    }
+    look_from(t, client::start(clock, key))
 }
