@@ -23,7 +23,8 @@ fn is_zero_from_6(s: &[u8; 16]) -> bool
         && word::four(s[6], s[7], 0, 0) == 0
 }
 
-// A hardware address has at most 16 octets, with zeros behind them; one of none has type 0.
+// A hardware address has at most 16 octets, with zeros behind them; one of none has type 0. Only where
+// the octets behind any length are looked at are they copied out of the record.
 #[tactic(auto, unfolding(crate::specs::Lease::hardware_fits))]
 fn does_hardware_fit(htype: u8, hlen: u8, chaddr: [u8; 16]) -> bool
     ensures { result ≡ hardware_fits htype hlen chaddr }
@@ -31,7 +32,10 @@ fn does_hardware_fit(htype: u8, hlen: u8, chaddr: [u8; 16]) -> bool
     match hlen {
         0 => htype == 0 && is_zero(&chaddr),
         6 => is_zero_from_6(&chaddr),
-        1..=16 => is_zero(&chaddr[hlen as usize..]),
+        1..=16 => {
+            let chaddr = chaddr;
+            is_zero(&chaddr[hlen as usize..])
+        }
         _ => false,
     }
 }
