@@ -9,7 +9,7 @@ use lib.ListN.{length, take, drop, replicate}
 use lib.Seq.{take-append-le}
 use borrow.Table.Steps.{cases}
 use borrow.Author.Tests.{leb-true, leb-false, lt-ltb, le-ltb, ltb-false}
-use Rattle.std.specs.Prelude.{Option, Some, None, is_some}
+use Rattle.std.specs.Prelude.{Option, Some, None}
 use Rattle.clock.specs.declared.Moment.{Moment}
 use Rattle.clock.specs.Clock.{is_moment}
 use Rattle.octets.specs.Write.{laid}
@@ -132,7 +132,7 @@ module _ (clock : Moment) (server : ℕ) (ps os : List ℕ) (t : List Lease) whe
   by_query (ByClientId place) s b = by_id (part ps place.at place.len) s b
 
 -- the form that the scan found is that of the table
-same_asked : (clock : Moment) (t : List Lease) (ps : List ℕ) (room : ℕ) → asked_at clock (is_some (form_of t).last) ps room ≡ asked_of clock t ps room
+same_asked : (clock : Moment) (t : List Lease) (ps : List ℕ) (room : ℕ) → asked_at clock (form_of t).ok ps room ≡ asked_of clock t ps room
 unfolding asked_at asked_of first_of
 same_asked clock t ps room = rw (form_whole t)
 
@@ -162,11 +162,11 @@ asked_sound clock t ps room =
 
 -- ---- the call by its parts: the form of the table, and what is asked
 module _ (clock : Moment) (ys : List Lease) (server : ℕ) (ps os : List ℕ) {f g : Form} (p : f ≡ form_start (length ys)) (s : g ≡ form_from f ys) where
-  asked_is : {a : Asked} → a ≡ asked_at clock (is_some g.last) ps (length os) → a ≡ asked_of clock ys ps (length os)
-  asked_is r = r ∙ ap (λ (h : Form). asked_at clock (is_some h.last) ps (length os)) (s ∙ ap (λ (h : Form). form_from h ys) p) ∙ same_asked clock ys ps (length os)
+  asked_is : {a : Asked} → a ≡ asked_at clock g.ok ps (length os) → a ≡ asked_of clock ys ps (length os)
+  asked_is r = r ∙ ap (λ (h : Form). asked_at clock h.ok ps (length os)) (s ∙ ap (λ (h : Form). form_from h ys) p) ∙ same_asked clock ys ps (length os)
 
   -- what is found in the table
-  pub comes_to : (q : Query) {h : Found} → asked_by ps q ≡ asked_at clock (is_some g.last) ps (length os) → h ≡ looked clock (key_for ps q) ys → concluded clock h server ps os ≡ answer clock ys server ps (length os)
+  pub comes_to : (q : Query) {h : Found} → asked_by ps q ≡ asked_at clock g.ok ps (length os) → h ≡ looked clock (key_for ps q) ys → concluded clock h server ps os ≡ answer clock ys server ps (length os)
   unfolding answer
   comes_to q r h =
       let e = asked_is r in
@@ -176,6 +176,6 @@ module _ (clock : Moment) (ys : List Lease) (server : ℕ) (ps os : List ℕ) {f
       ∙ ap (λ (a : Asked). answer_by clock server ps a ys) e
 
   -- a refusal
-  pub comes_to_refusal : {n : ℕ} → refused n ≡ asked_at clock (is_some g.last) ps (length os) → refusal n ≡ answer clock ys server ps (length os)
+  pub comes_to_refusal : {n : ℕ} → refused n ≡ asked_at clock g.ok ps (length os) → refusal n ≡ answer clock ys server ps (length os)
   unfolding answer answer_by
   comes_to_refusal r = ap (λ (a : Asked). answer_by clock server ps a ys) (asked_is r)

@@ -1,5 +1,5 @@
 // What a query has looked for in the table, or the refusal because of which nothing is looked for.
-ghost use Rattle.std.specs.Prelude.{◌≡◌, is_some};
+ghost use Rattle.std.specs.Prelude.{◌≡◌};
 ghost use Rattle.leasepacket.specs.Packet.{part};
 ghost use Rattle.leasequery.specs.declared.ask.Refusal.TheVariants.{Packet};
 ghost use Rattle.leasequery.specs.Stages.{padded, key_for, id_key, asked_at, number_of, asked_or_refused};
@@ -89,12 +89,12 @@ pub fn key_for(p: &[u8], query: Query) -> Key
 // What is asked for, or the first refusal that applies: 15, 9, 8, then those of the packet.
 #[tactic(auto, unfolding(crate::specs::Stages::asked_at, leasepacket::specs::Query::first_of))]
 pub fn ask(clock: Moment, table: Form, p: &[u8], room: usize) -> Result<Query, Refusal>
-    ensures { asked_or_refused p.now result ≡ asked_at clock (is_some table.last) p.now room }
+    ensures { asked_or_refused p.now result ≡ asked_at clock table.ok p.now room }
 {
     if !clock::is_moment(clock) {
         return Err(Refusal::NotMoment);
     }
-    if table.last.is_none() {
+    if !table.ok {
         return Err(Refusal::BadTable);
     }
     if room < reply::ROOM {

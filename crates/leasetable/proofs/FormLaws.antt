@@ -1,10 +1,9 @@
 -- What the scan of the form says of the whole table, and what a table of that form says of its records. Assumes nothing.
 use mathlib.Core.Path.{◌≡◌, refl, ◌∙◌, ap}
-use mathlib.Core.Bool.{Bool, true, false, cond, ◌&&◌}
+use mathlib.Core.Bool.{Bool, true, false, ◌&&◌}
 use mathlib.Core.List.{List, [], ◌∷◌, foldl}
 use Prim.Native.Nat.{ℕ, ◌<◌}
 use lib.ListN.{length}
-use Rattle.std.specs.Prelude.{is_some}
 use lib.Dec.{ltb}
 use borrow.Author.Tests.{ltb-true}
 use Rattle.octets.proofs.BoolLaws.{and_left, and_right}
@@ -15,15 +14,15 @@ use Rattle.leasetable.specs.Table.{count_fits, table_fits, rises_from}
 use Rattle.leasetable.specs.Folds.{form_good, form_bad, form_add, form_turn, form_from, form_of}
 
 -- ---- the scan
-bad_stays : (t : List Lease) → is_some (foldl form_turn form_bad t).last ≡ false
+bad_stays : (t : List Lease) → (foldl form_turn form_bad t).ok ≡ false
 bad_stays [] = refl
 bad_stays (x ∷ xs) = bad_stays xs
 
 abbrev Law : ℕ → List Lease → Type 0
-Law p t = is_some (foldl form_turn (form_good p) t).last ≡ rises_from p t
+Law p t = (foldl form_turn (form_good p) t).ok ≡ rises_from p t
 
-step_is : (p : ℕ) (x : Lease) (xs : List Lease) (f : Form) → form_add (form_good p) x ≡ f → is_some (foldl form_turn (form_good p) (x ∷ xs)).last ≡ is_some (foldl form_turn f xs).last
-step_is p x xs f e = ap (λ (g : Form). is_some (foldl form_turn g xs).last) e
+step_is : (p : ℕ) (x : Lease) (xs : List Lease) (f : Form) → form_add (form_good p) x ≡ f → (foldl form_turn (form_good p) (x ∷ xs)).ok ≡ (foldl form_turn f xs).ok
+step_is p x xs f e = ap (λ (g : Form). (foldl form_turn g xs).ok) e
 
 more : (p : ℕ) (x : Lease) (xs : List Lease) → Law x.address xs → (b : Bool) → ltb p x.address ≡ b → (e : Bool) → well_formed x ≡ e → Law p (x ∷ xs)
 unfolding form_add rises_from
@@ -37,11 +36,11 @@ form_law p [] = refl
 form_law p (x ∷ xs) = more p x xs (form_law x.address xs) (ltb p x.address) refl (well_formed x) refl
 
 -- from the start, the scan says whether the table keeps its form
-pub form_whole : (t : List Lease) → is_some (form_of t).last ≡ table_fits t
+pub form_whole : (t : List Lease) → (form_of t).ok ≡ table_fits t
 unfolding table_fits
 form_whole t = go (count_fits (length t))
   where
-    go : (b : Bool) → is_some (form_from (cond b (form_good 0) form_bad) t).last ≡ (b && rises_from 0 t)
+    go : (b : Bool) → (form_from (record { ok = b; last = 0 }) t).ok ≡ (b && rises_from 0 t)
     go true = form_law 0 t
     go false = refl
 

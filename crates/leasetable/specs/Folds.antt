@@ -1,6 +1,6 @@
 -- What the scans carry from record to record. Only the contracts of the scans, of their steps and of `look` cite this; none is exported.
 -- Of each scan: `Off` where it has nothing to look for, `Wants` where a record is to be noted, `Add` the record noted, and `Turn`, one turn of its loop.
-use Rattle.std.specs.Prelude.{ℕ, ◌+◌, min, Bool, false, cond, not, ◌&&◌, ltb, eqb, length, take, drop, get_or, replicate, Option, Some, None, is_some}
+use Rattle.std.specs.Prelude.{ℕ, ◌+◌, min, Bool, true, false, cond, not, ◌&&◌, ltb, eqb, length, take, drop, get_or, replicate, Option, Some, None}
 use mathlib.Core.List.{List, [], ◌∷◌, ◌++◌, foldl}
 use Rattle.clock.specs.declared.Moment.{Moment}
 use Rattle.clock.specs.Clock.{moment}
@@ -19,29 +19,24 @@ use Rattle.leasetable.specs.Table.{count_fits}
 -- ---- the form of the table
 -- the records so far keep the form, and the last has this address
 abbrev pub form_good : ℕ → Form
-form_good address = record { last = Some address }
+form_good address = record { ok = true; last = address }
 
 -- a record broke the form
 abbrev pub form_bad : Form
-form_bad = record { last = None }
+form_bad = record { ok = false; last = 0 }
 
 -- no record is passed yet of so many
 abbrev pub form_start : ℕ → Form
-form_start count = cond (count_fits count) (form_good 0) form_bad
+form_start count = record { ok = count_fits count; last = 0 }
 
 abbrev pub form_off : Form → Bool
-form_off a = not (is_some a.last)
+form_off a = not a.ok
 
 abbrev pub form_wants : Form → Lease → Bool
-form_wants a x = is_some a.last
-
--- a record of an address above the last
-abbrev pub form_above : Option ℕ → Lease → Form
-form_above None x = form_bad
-form_above (Some last) x = cond (ltb last x.address && well_formed x) (form_good x.address) form_bad
+form_wants a x = a.ok
 
 unfoldable pub form_add : Form → Lease → Form
-form_add a x = form_above a.last x
+form_add a x = cond (ltb a.last x.address && well_formed x) (form_good x.address) form_bad
 
 abbrev pub form_turn : Form → Lease → Form
 form_turn a x = cond (form_wants a x) (form_add a x) a

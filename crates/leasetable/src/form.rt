@@ -9,10 +9,11 @@ use lease::{Lease, form};
 // The most records that a table has.
 const LONGEST_TABLE: usize = 256;
 
-// The address of the last record passed, as long as the table may keep the form.
+// What is known of the records passed: whether the table may keep the form, and the last address.
 #[derive(Clone, Copy)]
 pub struct Form {
-    pub last: Option<u32>,
+    pub ok: bool,
+    pub last: u32,
 }
 
 // Nothing is passed yet of a table of so many records; too many break the form.
@@ -20,7 +21,8 @@ pub fn start(count: usize) -> Form
     ensures { result ≡ form_start count }
 {
     Form {
-        last: (count <= LONGEST_TABLE).then_some(0),
+        ok: count <= LONGEST_TABLE,
+        last: 0,
     }
 }
 
@@ -28,14 +30,14 @@ pub fn start(count: usize) -> Form
 fn is_off(a: Form) -> bool
     ensures { result ≡ form_off a }
 {
-    a.last.is_none()
+    !a.ok
 }
 
 // A table that was found to break its form is not looked at further.
 fn does_want(a: Form, x: Lease) -> bool
     ensures { result ≡ form_wants a x }
 {
-    a.last.is_some()
+    a.ok
 }
 
 // One record more, whose address is above the last.
@@ -43,13 +45,14 @@ fn does_want(a: Form, x: Lease) -> bool
 fn with_record(a: Form, x: Lease) -> Form
     ensures { result ≡ form_add a x }
 {
-    let Some(last) = a.last else {
-        return a;
-    };
-    let fits = last < x.address && form::is_well_formed(x);
-    Form {
-        last: fits.then_some(x.address),
+    let address = x.address;
+    if a.last < address && form::is_well_formed(x) {
+        return Form {
+            ok: true,
+            last: address,
+        };
     }
+    Form { ok: false, last: 0 }
 }
 
 // The records of a table. This is the scan whose code the law of proofs/ScanWalk.antt walks.
