@@ -3,5 +3,6 @@ pub mod DecodeLaws
 pub mod CopyLaws
 pub mod EncodeLaws
 pub mod FormLaws
+pub mod FreeLaws
 pub mod NamedLaws
 pub mod PlaceLaws

@@ -1,6 +1,7 @@
 // The places of a zone in lent octets, summed up.
-ghost use Rattle.std.specs.Prelude.{◌≡◌, length, map};
-ghost use Rattle.zone.specs.Survey.{Surveyed};
+ghost use Rattle.std.specs.Prelude.{◌≡◌, length, map, not, None};
+ghost use Rattle.zone.specs.Meaning.{used};
+ghost use Rattle.zone.specs.Survey.{Surveyed, place_from};
 ghost use Rattle.lentzone.specs.Decode.{entry_in};
 ghost use Rattle.lentzone.specs.Inner.{SurveyedIn};
 
@@ -9,8 +10,17 @@ use crate::{look, names, rows};
 use zone::survey::Survey;
 use zone::{fingerprint, survey};
 
+// The last free place, looked for from the last place on, so that few places are read where few are
+// used.
+fn free_in(places: &[Row]) -> Option<usize>
+    ensures { result ≡ place_from (λ e. not (used e)) 0 None (map entry_in places.now) }
+{
+    places.iter().rposition(|e| e[0] == 0)
+}
+
 // The one walk over all places. It tells names apart by their fingerprints: where two of those are
-// equal, the names are compared.
+// equal, the names are compared. A free place is passed over: beside the walk over the used ones it
+// would be kept in memory at each turn.
 fn survey_of(places: &[Row], n: &[u8]) -> Survey
     requires { length places.now ≡ 64 }
     ensures { Surveyed (record { entries = map entry_in places.now }) n.now result }
@@ -20,10 +30,8 @@ fn survey_of(places: &[Row], n: &[u8]) -> Survey
     let mut used: usize = 0;
     let mut inorder = true;
     let mut found = None;
-    let mut free = None;
     for (i, e) in places.iter().enumerate() {
         if e[0] == 0 {
-            free = Some(i);
             continue;
         }
         let l = look::look_at(e, fingerprint, n);
@@ -32,6 +40,7 @@ fn survey_of(places: &[Row], n: &[u8]) -> Survey
         inorder = survey::both(inorder, l.fine);
         found = survey::choose(l.named, Some(i), found);
     }
+    let free = free_in(places);
     let repeats = fingerprint::repeats(&fingerprints[..used]);
     let distinct = !repeats || names::are_distinct(places);
     Survey {

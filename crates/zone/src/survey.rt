@@ -79,7 +79,7 @@ pub fn survey_of(z: &Zone, n: &Name) -> Visit
         let own = name::fingerprint_of(&e.name);
         fingerprints[used] = own;
         used += 1;
-        let full = dname::name::is_full_name(name::octets(&e.name));
+        let full = dname::name::are_full(&e.name.octets, e.name.len);
         let sets = entry::are_sets_sound(&e.v4, &e.v6);
         let fine = entry::is_in_order(e.kind, full, sets);
         inorder = both(inorder, fine);

@@ -2,7 +2,7 @@ use Rattle.std.proofs.Common.{◌≡◌, ℕ, ◌<◌, ◌≤◌, true, not, len
 use Rattle.std.specs.Prelude.{Option}
 use Rattle.std.specs.Option.{unwrap_or}
 use Rattle.octets.specs.Count.{distinct}
-use Rattle.dname.specs.Name.{name_of, is_full}
+use Rattle.dname.specs.Name.{name_of}
 use Rattle.zone.specs.Meaning.{used as is_used, keys}
 use Rattle.zone.proofs.WalkLaws.{walk_free, walk_used, walk_clear, walk_end}
 use Rattle.zone.proofs.SurveyLaws.{blank, order_used, named_used, get_d_any}
@@ -23,8 +23,7 @@ loop-i-preserved c =
     let h : l.i < length es = let w = l.invariant in omega arith in
     let k : l.i < 64 = omega arith in
     let u : is_used (get_or es l.i blank) ≡ true = unfold is_used in ap not (ne_eqb _ _ c.if-e-eq0.false) in
-    let full = c.is_full_name-full.ensures ∙ ap is_full c.octets.ensures in
-    let fine = order_used es blank l.i h u _ _ _ c.is_in_order-fine.ensures full c.are_sets_sound-sets.ensures in
+    let fine = order_used es blank l.i h u _ _ _ c.is_in_order-fine.ensures c.are_full-full.ensures c.are_sets_sound-sets.ensures in
     let hit = named_used es blank l.i h u (name_of c.args.n.now) _ c.is_same-named.ensures in
     walk_used es (name_of c.args.n.now) l.fingerprints l.used l.inorder l.found l.free l.i l.invariant k _ _ _ _ _ u c.fingerprint_of-own.ensures fine hit c.both-inorder.ensures c.choose-found.ensures
 
