@@ -23,7 +23,7 @@ answer_number NXRRSET = rw number_nxrrset
 answer_number no_room = rw number_no_room
 
 -- No number but 0 stands for success.
-failed : (x : ℕ) → (x ≡ 0 → ⊥) → passed (answer_of x) ≡ false
+pub failed : (x : ℕ) → (x ≡ 0 → ⊥) → passed (answer_of x) ≡ false
 unfolding answer_of
 failed x n = rw (ne_eqb x 0 n) (others (eqb x 6) (eqb x 7) (eqb x 8) (eqb x 256))
   where

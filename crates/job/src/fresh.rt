@@ -28,13 +28,13 @@ enum Refusal {
 }
 
 #[tactic(auto, unfolding(crate::specs::Promise::new_refusal))]
-fn check(name: Name, family: u8, policy: u8) -> Result<(), Refusal>
-    ensures { refusal_number result ≡ new_refusal (name_of name) family policy }
+fn check(name: &Name, family: u8, policy: u8) -> Result<(), Refusal>
+    ensures { refusal_number result ≡ new_refusal (name_of name.now) family policy }
 {
     if !numbers::is_listed(family, policy) {
         return Err(Refusal::UnlistedNumber);
     }
-    if !name::is_full(name) {
+    if !name::are_full(&name.octets, name.len) {
         return Err(Refusal::NameNotFull);
     }
     Ok(())
@@ -81,6 +81,7 @@ pub fn jespurla_new_add(
 ) -> NewJob
     ensures { AddPromise name dhcid family address policy result }
 {
+    let checked = check(&name, family, policy);
     let job = Job {
         stage: Stage::BeforeA.number(),
         count: 0,
@@ -90,13 +91,14 @@ pub fn jespurla_new_add(
         dhcid,
         address,
     };
-    new_job(check(name, family, policy), job)
+    new_job(checked, job)
 }
 
 // A remove job, that has sent nothing yet.
 pub fn jespurla_new_remove(name: Name, dhcid: Dhcid, family: u8, address: Address) -> NewJob
     ensures { RemovePromise name dhcid family address result }
 {
+    let checked = check(&name, family, 0);
     let job = Job {
         stage: Stage::BeforeFirst.number(),
         count: 0,
@@ -106,5 +108,5 @@ pub fn jespurla_new_remove(name: Name, dhcid: Dhcid, family: u8, address: Addres
         dhcid,
         address,
     };
-    new_job(check(name, family, 0), job)
+    new_job(checked, job)
 }

@@ -3,4 +3,4 @@ use Rattle.job.proofs.fresh.jespurla_new_remove.Goals as goal
 
 pub returns : goal.returns
 unfolding fresh_remove stage_number
-returns c = rw (c.new_job.ensures, c.check.ensures, c.number.ensures)
+returns c = rw (c.new_job.ensures, c.check-checked.ensures, c.number.ensures)
