@@ -178,6 +178,32 @@ decided_as {n} {z} {right} {answer} {place} e f q c = record {
   needed = c.needed;
 }
 
+-- a change at the place found, under the name that stands there, is one under the name visited
+module _ (z : Zone) (n : Name) (v : Visit) (g : formed z ≡ true) (t : Visited z (name_of n) v) (request : Name → rules.Zone → Outcome) (w : Change) (e : Records) (f : e ≡ records_of v.entry) where
+  abbrev o : Maybe Standing
+  o = standing v.survey.found e
+
+  -- what stands at the place found is what was visited
+  seen : Seen z n v.entry o
+  seen = record { form = g; found_is = placed v.survey.found e ∙ t.surveyed.places.found_is; records_is = λ s h. go v.survey.found refl s h }
+    where
+      go : (p : Maybe ℕ) → v.survey.found ≡ p → (s : Standing) → standing p e ≡ Some s → s.records ≡ records_of (get_or z.entries s.place v.entry)
+      go Nothing k s h = absurd (cc)
+      go (Some p) k s h =
+          let m : ◌≡◌ {A = Standing} (record { place = p; records = e }) s = cc in
+          subst (λ (x : Standing). x.records ≡ records_of (get_or z.entries x.place v.entry)) m (f ∙ ap records_of (t.entry_is v.entry p k))
+
+  pub changes_visited : (s : Maybe Standing) → s ≡ o → Decides request s w → Changes (name_of n) z (request n (zone_of z)) (place_at o) (λ p. v.entry.name) w
+  changes_visited s i d = stays_named w ((subst (λ (x : Maybe Standing). Decides request x w) i d).decides z n v.entry seen)
+    where
+      -- the name that stands at the place found is the one visited
+      stays_named : (x : Change) → Changes (name_of n) z (request n (zone_of z)) (place_at o) (λ p. (get_or z.entries p v.entry).name) x
+          → Changes (name_of n) z (request n (zone_of z)) (place_at o) (λ p. v.entry.name) x
+      stays_named (Stays a) c = c
+      stays_named (Writes p r) c =
+          let k : v.survey.found ≡ Some p = sym (placed v.survey.found e) ∙ c.0 in
+          (c.0, decided_as _ _ (λ h. ap (λ (y : Entry). place_of y.name r) (sym (t.entry_is v.entry p k))) c.1)
+
 module _ (z : Zone) (n : Name) (family policy : ℕ) (v : Visit) (q : refusal_of z (name_of n) family policy ≡ 0) (t : Visited z (name_of n) v) (request : Name → rules.Zone → Outcome) (w : Change) where
   passes : Passed z (name_of n) family policy
   passes = not_refused z (name_of n) family policy q
@@ -186,27 +212,6 @@ module _ (z : Zone) (n : Name) (family policy : ℕ) (v : Visit) (q : refusal_of
   comes_adds d = promise_changed z (name_of n) family policy (request n) v.survey.free n w q (d.adds z n passes.form passes.name t.surveyed.places)
 
   module _ (e : Records) (f : e ≡ records_of v.entry) where
-    abbrev o : Maybe Standing
-    o = standing v.survey.found e
-
-    -- what stands at the place found is what was visited
-    seen : Seen z n v.entry o
-    seen = record { form = passes.form; found_is = placed v.survey.found e ∙ t.surveyed.places.found_is; records_is = λ s h. go v.survey.found refl s h }
-      where
-        go : (p : Maybe ℕ) → v.survey.found ≡ p → (s : Standing) → standing p e ≡ Some s → s.records ≡ records_of (get_or z.entries s.place v.entry)
-        go Nothing k s h = absurd (cc)
-        go (Some p) k s h =
-            let m : ◌≡◌ {A = Standing} (record { place = p; records = e }) s = cc in
-            subst (λ (x : Standing). x.records ≡ records_of (get_or z.entries x.place v.entry)) m (f ∙ ap records_of (t.entry_is v.entry p k))
-
-    pub comes_decides : (s : Maybe Standing) → s ≡ o → Decides request s w → Settles (request n) z (name_of n) family policy (settled z v.entry.name w)
+    pub comes_decides : (s : Maybe Standing) → s ≡ standing v.survey.found e → Decides request s w → Settles (request n) z (name_of n) family policy (settled z v.entry.name w)
     comes_decides s i d =
-        promise_changed z (name_of n) family policy (request n) (place_at o) v.entry.name w q (stays_named w ((subst (λ (x : Maybe Standing). Decides request x w) i d).decides z n v.entry seen))
-      where
-        -- the name that stands at the place found is the one visited
-        stays_named : (x : Change) → Changes (name_of n) z (request n (zone_of z)) (place_at o) (λ p. (get_or z.entries p v.entry).name) x
-            → Changes (name_of n) z (request n (zone_of z)) (place_at o) (λ p. v.entry.name) x
-        stays_named (Stays a) c = c
-        stays_named (Writes p r) c =
-            let k : v.survey.found ≡ Some p = sym (placed v.survey.found e) ∙ c.0 in
-            (c.0, decided_as _ _ (λ h. ap (λ (y : Entry). place_of y.name r) (sym (t.entry_is v.entry p k))) c.1)
+        promise_changed z (name_of n) family policy (request n) (place_at (standing v.survey.found e)) v.entry.name w q (changes_visited z n v passes.form t request w e f s i d)

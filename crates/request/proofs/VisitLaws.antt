@@ -11,9 +11,10 @@ use Rattle.octets.specs.Count.{Octets, distinct}
 use Rattle.dname.specs.declared.name.Name.{Name}
 use Rattle.dname.specs.Name.{name_of, is_full}
 use Rattle.zone.specs.declared.Zone.{Zone}
+use Rattle.zone.specs.declared.entry.Records.{Records}
 use Rattle.zone.specs.declared.survey.Visit.{Visit}
 use Rattle.zone.specs.Meaning.{keys, all_in_order, formed}
-use Rattle.zone.specs.Survey.{Visited}
+use Rattle.zone.specs.Survey.{Visited, records_of}
 use Rattle.update.specs.Rules as rules
 use Rattle.update.specs.Rules.{Outcome}
 use Rattle.update.specs.Meaning.{zone_of}
@@ -21,11 +22,12 @@ use Rattle.update.specs.Spelling.{spelling_of, respelled}
 use Rattle.lentzone.specs.Decode.{zone_in}
 use Rattle.request.specs.declared.Answered.{Answered}
 use Rattle.request.specs.declared.decide.Change.{Change}
+use Rattle.request.specs.declared.decide.Standing.{Standing}
 use Rattle.request.specs.declared.lent.RequestAnswer.{RequestAnswer}
 use Rattle.request.specs.Promise.{number_of, refusal_of, Promised}
 use Rattle.request.specs.Lent.{refusal_in, answered, PromisedIn}
-use Rattle.request.specs.Inner.{settled, Changes, Adds}
-use Rattle.request.proofs.PromiseLaws.{refusal_form, not_refused, promise_changed}
+use Rattle.request.specs.Inner.{settled, place_at, standing, Changes, Adds, Decides}
+use Rattle.request.proofs.PromiseLaws.{refusal_form, not_refused, promise_changed, changes_visited}
 
 -- ---- a zone whose places are not in order is refused
 
@@ -78,6 +80,11 @@ pub record Comes (request : rules.Zone → Outcome) (n : Octets) (v : Visit) (pl
 -- a request that adds a name comes to its change at the free place
 pub visit_adds : (request : Name → rules.Zone → Outcome) (n : Name) (v : Visit) (w : Change) → Adds request v.survey w → Comes (request n) (name_of n) v v.survey.free n w
 visit_adds request n v w d = record { comes = λ z g m t. d.adds z n g m t.surveyed.places }
+
+-- any other comes to its change at the place found, under the name that stands there
+pub visit_decides : (request : Name → rules.Zone → Outcome) (n : Name) (v : Visit) (e : Records) (s : Maybe Standing) (w : Change) → e ≡ records_of v.entry → s ≡ standing v.survey.found e
+    → Decides request s w → Comes (request n) (name_of n) v (place_at (standing v.survey.found e)) v.entry.name w
+visit_decides request n v e s w f i d = record { comes = λ z g m t. changes_visited z n v g t request w e f s i d }
 
 -- and what it comes to is what is promised of the zone that was visited
 pub promise_visited : (z : Zone) (n : Octets) (family policy : ℕ) (request : rules.Zone → Outcome) (k : ℕ) (v : Visit) (place : Maybe ℕ) (name : Name) (w : Change) → k ≡ refusal_of z n family policy → k ≡ 0

@@ -58,6 +58,10 @@ abbrev pub settled : Zone → Name → Change → Answered
 settled z n (Stays a) = record { refusal = 0; answer = number_of (means a); zone = z }
 settled z n (Writes place r) = record { refusal = 0; answer = 0; zone = written z place (place_of n r) }
 
+-- what a request answers, with the zone that it leaves
+abbrev pub with_zone : Zone → RequestAnswer → Answered
+with_zone z r = record { refusal = r.refusal; answer = r.answer; zone = z }
+
 -- what is promised of a request by value
 abbrev pub Settles : (rules.Zone → Outcome) → Zone → Octets → ℕ → ℕ → Answered → Type 0
 Settles request z n family policy r = Promised z n (refusal_of z n family policy) (request (zone_of z)) r

@@ -49,7 +49,7 @@ fn standing(octets: &[u8], place: Option<usize>) -> Option<Standing>
 }
 
 // A request that is refused.
-fn refuse(refusal: Refusal) -> RequestAnswer
+pub(crate) fn refuse(refusal: Refusal) -> RequestAnswer
     ensures { result ≡ refused_by refusal }
 {
     RequestAnswer {
@@ -59,7 +59,7 @@ fn refuse(refusal: Refusal) -> RequestAnswer
 }
 
 // A request that is answered.
-fn says(answer: Answer) -> RequestAnswer
+pub(crate) fn says(answer: Answer) -> RequestAnswer
     ensures { result ≡ answered_by answer }
 {
     RequestAnswer {

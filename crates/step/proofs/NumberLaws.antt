@@ -1,8 +1,9 @@
 -- The laws of a step by the number of the job's stage. Assumes nothing.
 use mathlib.Core.Path.{◌≡◌, refl, sym, ◌∙◌, ap}
 use mathlib.Core.Bool.{true, cond}
+use mathlib.Core.List.{[], ◌∷◌}
 use mathlib.Core.Option.{some}
-use Prim.Native.Nat.{ℕ, ◌+◌}
+use Prim.Native.Nat.{ℕ, ◌+◌, ◌<◌}
 use native.Mathlib.Numerals.{add-one}
 use native.Mathlib.Omega.{arith}
 use Rattle.octets.proofs.BoolLaws.{and_left, and_right}
@@ -16,9 +17,9 @@ use Rattle.update.proofs.NumberLaws.{listed_zero}
 use Rattle.request.proofs.PromiseLaws.{refusal_listed}
 use Rattle.request.proofs.SpellingLaws.{spells_same, spelled_by}
 use Rattle.job.specs.declared.job.Job.{Job}
-use Rattle.job.specs.Jobs.{Stage, before_a, before_b, before_first, before_second, ended, End, State, goes_on, after, after_first, after_second, step}
+use Rattle.job.specs.Jobs.{Stage, before_a, before_b, before_first, before_second, ended, End, possible, State, goes_on, after, after_first, after_second, step}
 use Rattle.job.specs.Meaning.{stage_number, stages, numbered, stage_at, stage_count, stage_of, can_have, is_add, arguments_of, at_stage, numbers_listed}
-use Rattle.job.proofs.StageLaws.{each_numbered, Listed, can_stage}
+use Rattle.job.proofs.StageLaws.{each_among, each_numbered, Listed, can_stage}
 use Rattle.job.proofs.JobLaws.{stage_of_lem}
 use Rattle.step.specs.Promise.{step_refusal, step_of, StepPromise}
 use Rattle.step.proofs.StepLaws.{form_holds}
@@ -35,6 +36,17 @@ module _ (j : Job) (h : numbers_listed j ≡ true) where
   numbers_can : can_have j.stage j.count ≡ true
   unfolding numbers_listed
   numbers_can = and_right (listed j.family (cond (is_add j.stage) j.policy 0)) (can_have j.stage j.count) h
+
+  can_at : (s : ℕ) → j.stage ≡ s → can_have s j.count ≡ true
+  can_at s e = ap (λ (t : ℕ). can_have t j.count) (sym e) ∙ numbers_can
+
+  pub count_a : j.stage ≡ 1 → j.count < 6
+  unfolding can_have stage_at numbered stage_number possible
+  count_a e = each_among (λ n. n < 6) j.count (0 ∷ 2 ∷ 4 ∷ []) (omega arith, (omega arith, (omega arith, tt))) (can_at 1 e)
+
+  pub count_b : j.stage ≡ 2 → j.count < 6
+  unfolding can_have stage_at numbered stage_number possible
+  count_b e = each_among (λ n. n < 6) j.count (1 ∷ 3 ∷ 5 ∷ []) (omega arith, (omega arith, (omega arith, tt))) (can_at 2 e)
 
 -- ---- the step that the rules make at each stage
 

@@ -26,27 +26,34 @@ pub struct StepAnswer {
 fn send(octets: &mut [u8], job: &Job, stage: Stage) -> RequestAnswer
     ensures { SentPromiseIn octets.old job.now stage octets.new result }
 {
-    let Job {
-        name,
-        dhcid,
-        family,
-        policy,
-        address,
-        ..
-    } = *job;
     match stage {
-        Stage::BeforeA => lent::jespurla_request_a_lent(octets, name, dhcid, family, address),
+        Stage::BeforeA => {
+            lent::jespurla_request_a_lent(octets, job.name, job.dhcid, job.family, job.address)
+        }
         Stage::BeforeB => lent::jespurla_request_b_lent(
-            octets, name, dhcid, family, address, policy,
+            octets,
+            job.name,
+            job.dhcid,
+            job.family,
+            job.address,
+            job.policy,
         ),
-        Stage::BeforeFirst => {
-            lent::jespurla_request_remove_address_lent(octets, name, dhcid, family, address)
-        }
-        Stage::BeforeSecond => {
-            lent::jespurla_request_remove_name_lent(octets, name, dhcid, family, address)
-        }
+        Stage::BeforeFirst => lent::jespurla_request_remove_address_lent(
+            octets,
+            job.name,
+            job.dhcid,
+            job.family,
+            job.address,
+        ),
+        Stage::BeforeSecond => lent::jespurla_request_remove_name_lent(
+            octets,
+            job.name,
+            job.dhcid,
+            job.family,
+            job.address,
+        ),
         _ => {
-            let checked = lent::jespurla_zone_check_lent(octets, name, family, 0);
+            let checked = lent::jespurla_zone_check_lent(octets, job.name, job.family, 0);
             RequestAnswer {
                 refusal: checked.refusal,
                 answer: answer::SUCCESS,

@@ -9,13 +9,15 @@ mod onward;
 ghost use Rattle.std.specs.Prelude.{◌≡◌, false};
 ghost use Rattle.job.specs.Meaning.{numbers_listed};
 ghost use Rattle.step.specs.Promise.{StepPromise};
+ghost use Rattle.request.specs.Inner.{with_zone};
 ghost use Rattle.step.specs.Inner.{SentPromise};
 
 use crate::onward::onward;
 use job::job::Job;
 use job::stage;
 use job::stage::Stage;
-use request::{Answered, answer};
+use request::lent::RequestAnswer;
+use request::{answer, in_place};
 use zone::Zone;
 
 // Refusals of document 01.
@@ -33,34 +35,29 @@ pub struct Stepped {
 }
 
 // The request that a stage asks for. A job that has ended sends none, and its zone is only checked.
-fn send(zone: Zone, job: &Job, stage: Stage) -> Answered
-    ensures { SentPromise zone job.now stage result }
+fn send(zone: &mut Zone, job: &Job, stage: Stage) -> RequestAnswer
+    ensures { SentPromise zone.old job.now stage (with_zone zone.new result) }
 {
-    let Job {
-        name,
-        dhcid,
-        family,
-        policy,
-        address,
-        ..
-    } = *job;
     match stage {
-        Stage::BeforeA => request::jespurla_request_a(zone, name, dhcid, family, address),
-        Stage::BeforeB => request::jespurla_request_b(zone, name, dhcid, family, address, policy),
+        Stage::BeforeA => in_place::send_a(zone, &job.name, job.dhcid, job.family, job.address),
+        Stage::BeforeB => in_place::send_b(
+            zone,
+            &job.name,
+            job.dhcid,
+            job.family,
+            job.address,
+            job.policy,
+        ),
         Stage::BeforeFirst => {
-            request::jespurla_request_remove_address(zone, name, dhcid, family, address)
+            in_place::send_remove_address(zone, &job.name, job.dhcid, job.family, job.address)
         }
         Stage::BeforeSecond => {
-            request::jespurla_request_remove_name(zone, name, dhcid, family, address)
+            in_place::send_remove_name(zone, &job.name, job.dhcid, job.family, job.address)
         }
-        _ => {
-            let checked = request::jespurla_zone_check(zone, name, family, 0);
-            Answered {
-                refusal: checked.refusal,
-                answer: answer::SUCCESS,
-                zone,
-            }
-        }
+        _ => RequestAnswer {
+            refusal: in_place::check(zone, &job.name, job.family, 0),
+            answer: answer::SUCCESS,
+        },
     }
 }
 
@@ -79,16 +76,16 @@ fn refuse(zone: Zone, job: Job) -> Stepped
 }
 
 // One step. The zone's form is checked once, by the request or by the check alone.
-pub fn jespurla_job_step(zone: Zone, job: Job) -> Stepped
+pub fn jespurla_job_step(mut zone: Zone, job: Job) -> Stepped
     ensures { StepPromise zone job result }
 {
     let Ok(stage) = stage::listed_stage(&job) else {
         return refuse(zone, job);
     };
-    let sent = send(zone, &job, stage);
+    let sent = send(&mut zone, &job, stage);
     Stepped {
         refusal: sent.refusal,
-        zone: sent.zone,
+        zone,
         job: onward(job, stage, sent.refusal, sent.answer),
     }
 }

@@ -1,7 +1,7 @@
 use Rattle.std.proofs.Common.{rules}
 use Rattle.update.specs.Rules.{request_b}
 use Rattle.update.specs.Meaning.{policy_of, update_of}
-use Rattle.request.proofs.jespurla_request_b.Goals as goal
+use Rattle.request.proofs.in_place.send_b.Goals as goal
 
 pub returns : goal.returns
 returns c =

@@ -1,6 +1,6 @@
 use Rattle.std.proofs.Common.{refl, sym}
 use Rattle.request.proofs.PromiseLaws.{comes_decides}
-use Rattle.request.proofs.send.Goals as goal
+use Rattle.request.proofs.in_place.send.Goals as goal
 
 pub returns-in-Ok : goal.returns-in-Ok
 returns-in-Ok g c =

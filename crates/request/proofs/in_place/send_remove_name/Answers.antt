@@ -1,7 +1,7 @@
 use Rattle.std.proofs.Common.{rules}
 use Rattle.update.specs.Rules.{remove_name}
 use Rattle.update.specs.Meaning.{update_of}
-use Rattle.request.proofs.jespurla_request_remove_name.Goals as goal
+use Rattle.request.proofs.in_place.send_remove_name.Goals as goal
 
 pub returns : goal.returns
 returns c =
