@@ -40,7 +40,8 @@ fn check(s: Survey, full: bool) -> Result<(), Refusal>
     Ok(())
 }
 
-// Where the name stands, if it does.
+// Where the name stands, if it does. A call of its own, so that the name is not copied for it.
+#[inline(never)]
 fn locate(octets: &[u8], name: &[u8]) -> Result<Option<usize>, Refusal>
     ensures { Located octets.now name.now result }
 {
@@ -53,14 +54,12 @@ fn locate(octets: &[u8], name: &[u8]) -> Result<Option<usize>, Refusal>
 pub fn jespurla_zone_find(octets: &[u8], name: Name) -> FindAnswer
     ensures { result ≡ find_answer octets.now name }
 {
-    match locate(octets, &name.octets[..name.len as usize]) {
-        Err(refusal) => FindAnswer {
-            refusal: u32::from(refusal),
-            entry: place::entry_at(octets, PLACES),
-        },
-        Ok(place) => FindAnswer {
-            refusal: 0,
-            entry: place::entry_at(octets, place.unwrap_or(PLACES)),
-        },
+    let (refusal, place) = match locate(octets, &name.octets[..name.len as usize]) {
+        Err(refusal) => (u32::from(refusal), PLACES),
+        Ok(place) => (0, place.unwrap_or(PLACES)),
+    };
+    FindAnswer {
+        refusal,
+        entry: place::entry_at(octets, place),
     }
 }
