@@ -74,7 +74,7 @@ pub fn scan(t: &[Lease], a: Form) -> Form
     acc
 }
 
-// The form is carried by any other scan too.
+// The same tests and the same step, for the scan that takes anything that is carried.
 impl Carried for Form {
     ghost off = { form_off };
 

@@ -1,5 +1,5 @@
-// Scans over the lent lease table. One scan serves all: what it looks for and how a record is noted is
-// each module's own.
+// Scans over the lent lease table. The form of the table has a scan of its own. One scan serves all that
+// is looked for: its test and how a record is noted are each module's own.
 
 #![tactic(auto)]
 
