@@ -1,5 +1,6 @@
 // What a query looks for, and the leases of a client: the ranks of its first active ones.
 ghost use Rattle.std.specs.Prelude.{◌≡◌, ◌≤◌};
+ghost use Rattle.lease.specs.Lease.{ranks_before};
 ghost use Rattle.leasetable.specs.Folds.{client_has, wanted, inserted, client_start, client_off, client_wants, client_add};
 
 use crate::scanning::Carried;
@@ -108,6 +109,13 @@ impl<const N: usize> Carried for Client<N> {
     }
 }
 
+// Whether a rank goes before one that is kept among N.
+fn goes_before<const N: usize>(x: Rank, y: Rank) -> bool
+    ensures { result ≡ ranks_before x y }
+{
+    order::is_before(x, y)
+}
+
 // A rank is put in its place among the first that are kept; where all places are taken the last is
 // dropped.
 fn insert<const N: usize>(ranks: &mut [Rank; N], kept: usize, e: Rank)
@@ -116,7 +124,7 @@ fn insert<const N: usize>(ranks: &mut [Rank; N], kept: usize, e: Rank)
 {
     let mut left = e;
     for place in ranks[..kept].iter_mut() {
-        if order::is_before(left, *place) {
+        if goes_before::<N>(left, *place) {
             mem::swap(place, &mut left);
         }
     }

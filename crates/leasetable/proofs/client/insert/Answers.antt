@@ -3,16 +3,16 @@ use Rattle.std.proofs.lemmas.List.{set-get_or}
 use Rattle.leasetable.specs.Folds.{no_rank}
 use Rattle.leasetable.proofs.InsertLaws.{place_swaps, place_goes_on, place_keeps, place_drops}
 use Rattle.leasetable.proofs.client.insert.Goals as goal
-use Rattle.leasetable.proofs.client.insert.Goals.{then-is_before, else-is_before}
+use Rattle.leasetable.proofs.client.insert.Goals.{then-goes_before, else-goes_before}
 
 pub loop-place-preserved : goal.loop-place-preserved
 loop-place-preserved g c =
     let l = c.loop-place in
     let h : l.place-index < length l.place-items = omega arith in
-    let e = sym c.is_before.ensures in
-    elim c.if-is_before.branch [
-      | then-is_before w ↦ (let q = place_swaps l.place-items l.left l.place-index h (e ∙ w.if-is_before.true) in let a = w.left-is in let b = w.place-items-is in let d = w.swap.ensures.x_after in let f = w.swap.ensures.y_after in cc)
-      | else-is_before w ↦ (let q = place_goes_on l.place-items l.left l.place-index h (e ∙ w.if-is_before.false) in let a = w.left-is in let b = w.place-items-is ∙ set-get_or l.place-items l.place-index no_rank in cc)
+    let e = sym c.goes_before.ensures in
+    elim c.if-goes_before.branch [
+      | then-goes_before w ↦ (let q = place_swaps l.place-items l.left l.place-index h (e ∙ w.if-goes_before.true) in let a = w.left-is in let b = w.place-items-is in let d = w.swap.ensures.x_after in let f = w.swap.ensures.y_after in cc)
+      | else-goes_before w ↦ (let q = place_goes_on l.place-items l.left l.place-index h (e ∙ w.if-goes_before.false) in let a = w.left-is in let b = w.place-items-is ∙ set-get_or l.place-items l.place-index no_rank in cc)
     ]
 
 pub returns-then-kept : goal.returns-then-kept
