@@ -11,17 +11,8 @@ use addresses::set;
 use addresses::set4::{Addr4, Set4};
 use addresses::set6::{Addr6, Set6};
 use dname::name::Name;
+use octets::write;
 use zone::entry::{Dhcid, Entry, Records};
-
-// Octets over as many others. Octet by octet: the two never overlap, so this is compiled to one copy.
-fn copy(octets: &mut [u8], s: &[u8])
-    requires { length octets.old ≡ length s.now }
-    ensures { octets.new ≡ s.now }
-{
-    for i in 0..s.len() {
-        octets[i] = s[i];
-    }
-}
 
 // So many octets as an array.
 fn array_in<const N: usize>(s: &[u8]) -> [u8; N]
@@ -29,7 +20,7 @@ fn array_in<const N: usize>(s: &[u8]) -> [u8; N]
     ensures { result ≡ s.now }
 {
     let mut octets = [0; N];
-    copy(&mut octets, s);
+    write::put_octets(&mut octets, 0, s);
     octets
 }
 
