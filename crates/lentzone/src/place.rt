@@ -19,6 +19,7 @@ pub fn records_at(z: &[u8], place: usize) -> Records
 }
 
 // A place whole, octet for octet; zeros where there is no such place.
+#[inline(always)]
 pub fn entry_at(z: &[u8], place: usize) -> Entry
     ensures { result ≡ entry_in (row_at z.now place) }
 {

@@ -19,8 +19,8 @@ fn free_in(places: &[Row]) -> Option<usize>
 }
 
 // The one walk over all places. It tells names apart by their fingerprints: where two of those are
-// equal, the names are compared. A free place is passed over: beside the walk over the used ones it
-// would be kept in memory at each turn.
+// equal, the names are compared. The free place is looked for apart, so that a turn over a free place
+// has nothing to keep.
 fn survey_of(places: &[Row], n: &[u8]) -> Survey
     requires { length places.now ≡ 64 }
     ensures { Surveyed (record { entries = map entry_in places.now }) n.now result }
