@@ -9,7 +9,7 @@ use lib.ListN.{length, take, drop, replicate}
 use lib.Seq.{take-append-le}
 use borrow.Table.Steps.{cases}
 use borrow.Author.Tests.{leb-true, leb-false, lt-ltb, le-ltb, ltb-false}
-use Rattle.std.specs.Prelude.{Option, Some, None}
+use Rattle.std.specs.Prelude.{Option, None}
 use Rattle.clock.specs.declared.Moment.{Moment}
 use Rattle.clock.specs.Clock.{is_moment}
 use Rattle.octets.specs.Write.{laid}
@@ -28,7 +28,7 @@ use Rattle.leasetable.specs.declared.client.Key.TheVariants.{Hardware}
 use Rattle.leasetable.specs.declared.look.Found.{Found}
 use Rattle.leasetable.specs.declared.look.Found.TheVariants.{OfAddress}
 use Rattle.leasetable.specs.Table.{count_fits, table_fits, rises_from, those, placed, ranked}
-use Rattle.leasetable.specs.Folds.{form_start, form_from, form_of, client_has, found, by_client, looked_from, looked}
+use Rattle.leasetable.specs.Folds.{form_start, form_from, form_of, client_has, no_rank, by_client, looked_from, looked}
 use Rattle.leasetable.specs.Folds.{by_address as by_address_in}
 use Rattle.leasetable.proofs.FormLaws.{form_whole}
 use Rattle.leasetable.proofs.LookLaws.{Looked, client_looked, first_or, record_looked}
@@ -100,17 +100,17 @@ module _ (clock : Moment) (server : ℕ) (ps os : List ℕ) (a : 240 ≤ length 
       ∙ ap (λ (l : List Lease). by_client_of clock server ps (foldl (λ ys x. placed x ys) [] l)) (those_alike (λ x. active_at clock x && client_has k x) (λ x. active_at clock x && has_key key x) (λ x. ap (λ (w : Bool). active_at clock x && w) (e x)) t)
 
   -- ---- by address
-  address_out : (l : List Lease) → concluded clock (OfAddress (first_or None l)) server ps os ≡ by_address_of clock server ps l
+  address_out : (l : List Lease) (kept : ℕ) (ranks : List Rank) → concluded clock (OfAddress (first_or None l) kept ranks) server ps os ≡ by_address_of clock server ps l
   unfolding by_address_of
-  address_out [] = con_nobody clock server ps os ∙ other_is 12
-  address_out (x ∷ xs) =
+  address_out [] kept ranks = con_nobody clock server ps os kept ranks ∙ other_is 12
+  address_out (x ∷ xs) kept ranks =
       cases (active_at clock x)
-      (λ t. rw t (con_active clock server ps os x t ∙ active_is x 0 [] [] refl))
-      (λ t. rw t (con_unassigned clock server ps os x t ∙ other_is 11))
+      (λ t. rw t (con_active clock server ps os kept ranks x t ∙ active_is x 0 [] [] refl))
+      (λ t. rw t (con_unassigned clock server ps os kept ranks x t ∙ other_is 11))
 
   by_address_lem : (a : ℕ) (t : List Lease) → rises_from 0 t ≡ true → concluded clock (by_address_in a t) server ps os ≡ by_address_of clock server ps (those (has_key (by_address a)) t)
   unfolding has_key by_address_in
-  by_address_lem a t f = ap (λ (o : Option Lease). concluded clock (OfAddress o) server ps os) (record_looked t a f) ∙ address_out (those (λ x. eqb x.address a) t)
+  by_address_lem a t f = ap (λ (o : Option Lease). concluded clock (OfAddress o 0 (replicate 4 no_rank)) server ps os) (record_looked t a f) ∙ address_out (those (λ x. eqb x.address a) t) 0 (replicate 4 no_rank)
 
 -- ---- the whole
 -- with a key, the buffer is long enough and the addresses rise
@@ -126,7 +126,7 @@ module _ (clock : Moment) (server : ℕ) (ps os : List ℕ) (t : List Lease) whe
   by_id o s b = by_client_lem clock server ps os s b.0 (by_client_id o) (id_key o) (id_key_lem o) t b.1
 
   by_query : (q : Query) → Sound ps (asked_by ps q) → Ready (length os) t (asked_by ps q) → concluded clock (looked clock (key_for ps q) t) server ps os ≡ answer_by clock server ps (asked_by ps q) t
-  unfolding answer_by looked looked_from by_client
+  unfolding answer_by looked looked_from by_client by_address_in
   by_query (ByAddress a) s b = by_address_lem clock server ps os s b.0 a t b.1
   by_query (ByHardware htype hlen) s b = by_client_lem clock server ps os s.0 b.0 (by_hardware htype hlen (chaddr ps)) (Hardware htype hlen (padded (chaddr ps))) (λ x. hardware_key_lem htype hlen (chaddr ps) x s.1 s.2) t b.1
   by_query (ByClientId place) s b = by_id (part ps place.at place.len) s b

@@ -37,8 +37,8 @@ asked_read clock ok query room e m k h = ap (asked query) e ∙ read_asks query 
 
 -- ---- the conclusion, by each way out of it
 module _ (clock : Moment) (server : ℕ) (query buffer : List ℕ) where
-  -- of a client
   module _ (kept : ℕ) (ranks : List Rank) where
+    -- of a client
     pub con_unknown : concluded clock (found kept ranks None) server query buffer ≡ other_of 12 server query buffer
     unfolding concluded
     con_unknown = refl
@@ -47,15 +47,15 @@ module _ (clock : Moment) (server : ℕ) (query buffer : List ℕ) where
     unfolding concluded
     con_client x = refl
 
-  -- of an address
-  pub con_nobody : concluded clock (OfAddress None) server query buffer ≡ other_of 12 server query buffer
-  unfolding concluded
-  con_nobody = refl
+    -- of an address
+    pub con_nobody : concluded clock (OfAddress None kept ranks) server query buffer ≡ other_of 12 server query buffer
+    unfolding concluded
+    con_nobody = refl
 
-  pub con_active : (x : Lease) → active_at clock x ≡ true → concluded clock (OfAddress (Some x)) server query buffer ≡ active_of clock x 0 [] server query buffer
-  unfolding concluded
-  con_active x a = rw a refl
+    pub con_active : (x : Lease) → active_at clock x ≡ true → concluded clock (OfAddress (Some x) kept ranks) server query buffer ≡ active_of clock x 0 [] server query buffer
+    unfolding concluded
+    con_active x a = rw a refl
 
-  pub con_unassigned : (x : Lease) → active_at clock x ≡ false → concluded clock (OfAddress (Some x)) server query buffer ≡ other_of 11 server query buffer
-  unfolding concluded
-  con_unassigned x a = rw a refl
+    pub con_unassigned : (x : Lease) → active_at clock x ≡ false → concluded clock (OfAddress (Some x) kept ranks) server query buffer ≡ other_of 11 server query buffer
+    unfolding concluded
+    con_unassigned x a = rw a refl

@@ -1,5 +1,5 @@
 -- What the functions below the exported call hand on. Only their contracts cite this.
-use Rattle.std.specs.Prelude.{ℕ, min, Bool, cond, not, List, [], ◌∷◌, ltb, length, replicate, Option, Some, None, Result, Ok, Err}
+use Rattle.std.specs.Prelude.{ℕ, min, Bool, cond, not, List, [], ◌∷◌, ltb, length, replicate, Some, None, Result, Ok, Err}
 use Rattle.clock.specs.declared.Moment.{Moment}
 use Rattle.clock.specs.Clock.{is_moment}
 use Rattle.octets.specs.Write.{laid}
@@ -65,7 +65,7 @@ of_record x clock server query buffer = cond (active_at clock x) (active_of cloc
 
 -- the answer from what was found; of a client, what is found is not asked whether it is active
 unfoldable pub concluded : Moment → Found → ℕ → List ℕ → List ℕ → Outcome
-concluded clock (OfAddress None) server query buffer = other_of 12 server query buffer
-concluded clock (OfAddress (Some x)) server query buffer = of_record x clock server query buffer
+concluded clock (OfAddress None kept ranks) server query buffer = other_of 12 server query buffer
+concluded clock (OfAddress (Some x) kept ranks) server query buffer = of_record x clock server query buffer
 concluded clock (OfClient None kept ranks) server query buffer = other_of 12 server query buffer
 concluded clock (OfClient (Some x) kept ranks) server query buffer = active_of clock x kept ranks server query buffer

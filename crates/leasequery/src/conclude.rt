@@ -63,7 +63,10 @@ pub fn conclude(f: &Found, clock: Moment, server: u32, query: &[u8], buf: &mut [
     ensures { Gives (concluded clock f.now server query.now buf.old) buf.old result buf.new }
 {
     match f {
-        Found::OfAddress(Some(lease)) => of_record(lease, clock, server, query, buf),
+        Found::OfAddress {
+            best: Some(lease),
+            ..
+        } => of_record(lease, clock, server, query, buf),
         Found::OfClient {
             best: Some(lease),
             kept,
@@ -77,7 +80,7 @@ pub fn conclude(f: &Found, clock: Moment, server: u32, query: &[u8], buf: &mut [
             };
             active(told, server, query, buf)
         }
-        Found::OfAddress(None) | Found::OfClient { best: None, .. } => {
+        Found::OfAddress { best: None, .. } | Found::OfClient { best: None, .. } => {
             other(layout::DHCPLEASEUNKNOWN, server, query, buf)
         }
     }

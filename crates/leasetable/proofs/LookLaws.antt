@@ -1,6 +1,6 @@
 -- What the scans together say of the whole table. Assumes nothing.
 use mathlib.Core.Path.{◌≡◌, refl, sym, ◌∙◌, ap}
-use mathlib.Core.Bool.{Bool, true, cond}
+use mathlib.Core.Bool.{Bool, true, false, cond, and-false}
 use mathlib.Core.List.{List, [], ◌∷◌, ◌++◌, foldl, map, head_d}
 use Prim.Native.Nat.{ℕ, zero, suc, ◌≤◌, ◌<◌, min}
 use native.Mathlib.Omega.{arith}
@@ -16,10 +16,13 @@ use Rattle.lease.specs.declared.Lease.{Lease}
 use Rattle.lease.specs.declared.Rank.{Rank}
 use Rattle.lease.specs.Lease.{active_at, rank_of, ranks_before}
 use Rattle.leasetable.specs.declared.client.Key.{Key}
+use Rattle.leasetable.specs.declared.client.Key.TheVariants.{Address, Hardware, ClientId}
+use Rattle.leasetable.specs.declared.client.Client.{Client}
 use Rattle.leasetable.specs.declared.record.Record.{Record}
 use Rattle.leasetable.specs.declared.look.Found.{Found}
+use Rattle.leasetable.specs.declared.look.Found.TheVariants.{OfAddress, OfClient}
 use Rattle.leasetable.specs.Table.{rises_from, those, placed}
-use Rattle.leasetable.specs.Folds.{Candidates, Associated, client_has, wanted, record_start, record_add, record_turn, record_in, no_rank, no_ranks, client_in, associated, found, found_from, by_client}
+use Rattle.leasetable.specs.Folds.{Candidates, Associated, client_has, wanted, record_start, record_add, record_turn, record_in, no_rank, no_ranks, client_start, client_wants, client_add, client_turn, client_in, associated, found, found_at, found_from, by_client, looked_by, looked_from}
 use Rattle.leasetable.proofs.FormLaws.{rise_first, rise_rest}
 use Rattle.leasetable.proofs.CandidateLaws.{Reached, order, ClientReached, client_reached}
 
@@ -181,3 +184,36 @@ module _ (clock : Moment) (key : Key) (t : List Lease) where
         ranks_are = v.1;
         active = all_order (Active clock) [] (those (wanted clock key) t) tt (all_map (λ x. wanted clock key x ≡ true) (Active clock) (λ x w. and_left (active_at clock x) (client_has key x) w) (those (wanted clock key) t) (passing (wanted clock key) t));
       }
+
+-- ---- from other candidates than none
+-- The count and the ranks that were found.
+abbrev pub told : Found → ℕ × List Rank
+told (OfAddress best kept ranks) = cond (eqb kept 4) (0, no_ranks) (kept, take 3 ranks ++ drop 3 no_ranks)
+told (OfClient best kept ranks) = (kept, ranks)
+
+abbrev pub ranks_in : Associated → ℕ × List Rank
+ranks_in all = (all.kept, all.ranks)
+
+-- by address no record is noted
+passed : (places d : ℕ) (c : Client places) (t : List Lease) → c.key ≡ Address d → foldl (client_turn places) c t ≡ c
+unfolding client_has
+passed places d c [] e = refl
+passed places d c (x ∷ xs) e =
+    let w : client_wants c x ≡ false = ap (λ (k : Key). wanted c.clock k x) e ∙ and-false (active_at c.clock x) in
+    ap (λ (b : Bool). foldl (client_turn places) (cond b (client_add places c x) c) xs) w ∙ passed places d c xs e
+
+-- Whatever is looked for and from whatever candidates, they are those of the candidates with what the table has of them.
+pub told_all : (a : Candidates) (t : List Lease) → told (looked_from a t) ≡ ranks_in (associated (foldl (client_turn 4) a t) t)
+unfolding looked_from
+told_all a t = go a.key refl
+  where
+    go : (k : Key) → a.key ≡ k → told (looked_by k a t) ≡ ranks_in (associated (foldl (client_turn 4) a t) t)
+    go (Hardware htype hlen octets) e = refl
+    go (ClientId len octets) e = refl
+    go (Address d) e =
+        let h : told (found_at d a t) ≡ ranks_in (associated a t) =
+        cases (eqb a.kept 4)
+        (λ z. rw z (sym (ap ranks_in (passed 63 d (client_start 63 a.clock a.key) t e))))
+        (λ z. rw z refl)
+        in
+        h ∙ sym (ap (λ (c : Candidates). ranks_in (associated c t)) (passed 4 d a t e))

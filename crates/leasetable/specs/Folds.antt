@@ -164,9 +164,13 @@ first_record four t = cond (eqb four.kept 0) None (record_in (get_or four.ranks 
 abbrev pub found : ℕ → List Rank → Option Lease → Found
 found kept ranks best = OfClient best kept ranks
 
--- the record of an address
+-- the record of an address, with the count and the ranks of candidates
+abbrev pub found_at : ℕ → Candidates → List Lease → Found
+found_at address a t = OfAddress (record_in address t) a.kept a.ranks
+
+-- and with none
 unfoldable pub by_address : ℕ → List Lease → Found
-by_address address t = OfAddress (record_in address t)
+by_address address t = OfAddress (record_in address t) 0 (replicate 4 no_rank)
 
 -- the ranks of the client, from its first four, with the record of the first
 abbrev pub found_from : Candidates → List Lease → Found
@@ -177,7 +181,7 @@ by_client clock key t = found_from (client_in 4 clock key t) t
 
 -- what is looked for, from candidates among records that were passed before
 abbrev pub looked_by : Key → Candidates → List Lease → Found
-looked_by (Address address) a t = by_address address t
+looked_by (Address address) a t = found_at address a t
 looked_by (Hardware htype hlen octets) a t = found_from (foldl (client_turn 4) a t) t
 looked_by (ClientId len octets) a t = found_from (foldl (client_turn 4) a t) t
 

@@ -1,6 +1,6 @@
 // The leases of a table that a query is about, in up to three scans.
 ghost use Rattle.std.specs.Prelude.{◌≡◌};
-ghost use Rattle.leasetable.specs.Folds.{no_ranks, widened, associated, first_record, by_address, found_from, looked_from, looked};
+ghost use Rattle.leasetable.specs.Folds.{no_ranks, widened, associated, first_record, found_at, found_from, looked_from, looked};
 
 use crate::client::{self, Associated, Candidates, Client, Key};
 use crate::record;
@@ -8,11 +8,16 @@ use crate::scanning::scan;
 use clock::Moment;
 use lease::{Lease, Rank};
 
-// What was found, by what was looked for. Of an address it is its record. Of a client, `best` is the
-// active lease that ranks first, and `ranks` has the ranks of the first 63.
+// What was found, by what was looked for. Of an address, `best` is its record, and the count and the
+// ranks are those of the candidates that were passed before. Of a client, `best` is the active lease that
+// ranks first, and `ranks` has the ranks of the first 63.
 #[derive(Clone, Copy)]
 pub enum Found {
-    OfAddress(Option<Lease>),
+    OfAddress {
+        best: Option<Lease>,
+        kept: usize,
+        ranks: [Rank; 4],
+    },
     OfClient {
         best: Option<Lease>,
         kept: usize,
@@ -65,12 +70,15 @@ fn first_record(t: &[Lease], four: &Candidates) -> Option<Lease>
     scan(t, record::start(four.ranks[0].address)).best
 }
 
-// The record of an address.
-#[tactic(auto, unfolding(crate::specs::Folds::by_address))]
-fn by_address(t: &[Lease], address: u32) -> Found
-    ensures { result ≡ by_address address t.now }
+// The record of an address, with the candidates that were passed before.
+fn by_address(t: &[Lease], address: u32, a: &Candidates) -> Found
+    ensures { result ≡ found_at address a.now t.now }
 {
-    Found::OfAddress(scan(t, record::start(address as u64)).best)
+    Found::OfAddress {
+        best: scan(t, record::start(address as u64)).best,
+        kept: a.kept,
+        ranks: a.ranks,
+    }
 }
 
 // The ranks of a client, from its first four, and the record of the first.
@@ -93,7 +101,7 @@ pub fn look_from(t: &[Lease], a: Candidates) -> Found
     ensures { result ≡ looked_from a t.now }
 {
     match a.key {
-        Key::Address(address) => by_address(t, address),
+        Key::Address(address) => by_address(t, address, &a),
         Key::Hardware { .. } | Key::ClientId { .. } => by_client(t, scan(t, a)),
     }
 }

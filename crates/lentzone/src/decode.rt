@@ -14,9 +14,7 @@ use dname::name::Name;
 use octets::write;
 use zone::entry::{Dhcid, Entry, Records};
 
-// So many octets as an array. Taken into its callers, as the two on a whole place are, so that what is
-// copied is known to overlap nothing: the archive for C then needs no memmove.
-#[inline(always)]
+// So many octets as an array.
 fn array_in<const N: usize>(s: &[u8]) -> [u8; N]
     requires { length s.now ≡ N }
     ensures { result ≡ s.now }
@@ -87,7 +85,6 @@ pub(crate) fn records_in(e: &Row) -> Records
 }
 
 // The whole place: what stands there, and its name.
-#[inline(always)]
 pub(crate) fn entry_in(e: &Row) -> Entry
     ensures { result ≡ entry_in e.now }
 {

@@ -1,6 +1,6 @@
 // One place of a zone in lent octets: read, and written. There are 64 places of 374 octets each;
 // where there are not 23,936 octets, or no such place, nothing is written.
-ghost use Rattle.std.specs.Prelude.{◌≡◌};
+ghost use Rattle.std.specs.Prelude.{◌≡◌, replicate};
 ghost use Rattle.zone.specs.Survey.{place_of};
 ghost use Rattle.lentzone.specs.Decode.{entry_in};
 ghost use Rattle.lentzone.specs.Inner.{row_at, records_at, name_at, Written};
@@ -18,12 +18,22 @@ pub fn records_at(z: &[u8], place: usize) -> Records
     decode::records_in(rows::row_at(z, place))
 }
 
-// A place whole, octet for octet; zeros where there is no such place.
-#[inline(always)]
+// A place of zeros.
+fn free_entry() -> Entry
+    ensures { result ≡ entry_in (replicate 374 0) }
+{
+    decode::entry_in(&[0; PLACE_SIZE])
+}
+
+// A place whole, octet for octet; zeros where there is no such place. With a way out of its own for
+// either, the compiler copies the name no more often than it has to.
 pub fn entry_at(z: &[u8], place: usize) -> Entry
     ensures { result ≡ entry_in (row_at z.now place) }
 {
-    decode::entry_in(rows::row_at(z, place))
+    let Some(row) = rows::row_in(z, place) else {
+        return free_entry();
+    };
+    decode::entry_in(row)
 }
 
 // What stands at a place written; its name stays.

@@ -1,5 +1,5 @@
 // The places of a zone in lent octets, each as an array.
-ghost use Rattle.std.specs.Prelude.{◌≡◌, length, MatchOption};
+ghost use Rattle.std.specs.Prelude.{◌≡◌, length, replicate, MatchOption};
 ghost use Rattle.lentzone.specs.Decode.{rows};
 ghost use Rattle.lentzone.specs.Inner.{row_at};
 
@@ -20,15 +20,20 @@ pub(crate) fn rows(z: &[u8]) -> Option<&[Row]>
     Some(z.as_chunks().0)
 }
 
-// One place; zeros where there is no such place.
+// One place, if there is such a place.
+pub(crate) fn row_in(z: &[u8], place: usize) -> Option<&Row>
+    ensures { MatchOption result (row_at z.now place ≡ replicate 374 0) (λ r. r.now ≡ row_at z.now place) }
+{
+    let rows = rows(z)?;
+    if place >= 64 {
+        return None;
+    }
+    Some(&rows[place])
+}
+
+// The same; zeros where there is no such place.
 pub(crate) fn row_at(z: &[u8], place: usize) -> &Row
     ensures { result.now ≡ row_at z.now place }
 {
-    let Some(rows) = rows(z) else {
-        return &FREE;
-    };
-    if place >= 64 {
-        return &FREE;
-    }
-    &rows[place]
+    row_in(z, place).unwrap_or(&FREE)
 }

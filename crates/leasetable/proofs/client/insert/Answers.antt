@@ -1,4 +1,4 @@
-use Rattle.std.proofs.Common.{arith, ◌≡◌, ◌≤◌, ◌<◌, ◌∙◌, sym, length, length-take-le, slice_index_or}
+use Rattle.std.proofs.Common.{arith, ◌≡◌, ◌≤◌, ◌<◌, ◌∙◌, sym, length, length-take-le}
 use Rattle.std.proofs.lemmas.List.{set-get_or}
 use Rattle.leasetable.specs.Folds.{no_rank}
 use Rattle.leasetable.proofs.InsertLaws.{place_swaps, place_goes_on, place_keeps, place_drops}
