@@ -36,8 +36,7 @@ fn is_same(own: u32, a: &[u8], fingerprint: u32, b: &[u8]) -> bool
     own == fingerprint && dname::same_name(a, b)
 }
 
-// A used place. A call of its own, so that the walk keeps its values in registers over free places.
-#[inline(never)]
+// A used place.
 pub(crate) fn look_at(e: &Row, fingerprint: u32, n: &[u8]) -> Look
     requires { (fingerprint ≡ fingerprint_words n.now) × (get_or e.now 0 0 ≡ 0 → ⊥) }
     ensures { Looked n.now (entry_in e.now) result }

@@ -1,7 +1,8 @@
 // One place of a zone in lent octets: read, and written. There are 64 places of 374 octets each;
-// where there are not 23,936 octets, or no such place, nothing is written.
+// where there are not 23,936 octets, or no such place, nothing is written. A place that is none has a way
+// out of its own in both readers: so the compiler copies what is read no more often than it has to.
 ghost use Rattle.std.specs.Prelude.{◌≡◌, replicate};
-ghost use Rattle.zone.specs.Survey.{place_of};
+ghost use Rattle.zone.specs.Survey.{place_of, records_of};
 ghost use Rattle.lentzone.specs.Decode.{entry_in};
 ghost use Rattle.lentzone.specs.Inner.{row_at, records_at, name_at, Written};
 
@@ -11,11 +12,21 @@ use dname::name::Name;
 use octets::write;
 use zone::entry::{Entry, Records};
 
+// What stands in a place of zeros.
+fn nothing() -> Records
+    ensures { result ≡ records_of (entry_in (replicate 374 0)) }
+{
+    decode::records_in(&[0; PLACE_SIZE])
+}
+
 // What stands at a place; as in a place of zeros where there is no such place.
 pub fn records_at(z: &[u8], place: usize) -> Records
     ensures { result ≡ records_at z.now place }
 {
-    decode::records_in(rows::row_at(z, place))
+    let Some(row) = rows::row_in(z, place) else {
+        return nothing();
+    };
+    decode::records_in(row)
 }
 
 // A place of zeros.
@@ -25,8 +36,7 @@ fn free_entry() -> Entry
     decode::entry_in(&[0; PLACE_SIZE])
 }
 
-// A place whole, octet for octet; zeros where there is no such place. With a way out of its own for
-// either, the compiler copies the name no more often than it has to.
+// A place whole, octet for octet; zeros where there is no such place.
 pub fn entry_at(z: &[u8], place: usize) -> Entry
     ensures { result ≡ entry_in (row_at z.now place) }
 {

@@ -77,15 +77,16 @@ fn refuse(octets: &mut [u8], job: Job) -> StepAnswer
 }
 
 // One step.
-pub fn jespurla_job_step_lent(octets: &mut [u8], job: Job) -> StepAnswer
+pub fn jespurla_job_step_lent(octets: &mut [u8], mut job: Job) -> StepAnswer
     ensures { StepPromiseIn octets.old job octets.new result }
 {
     let Ok(stage) = stage::listed_stage(&job) else {
         return refuse(octets, job);
     };
     let sent = send(octets, &job, stage);
+    onward(&mut job, stage, sent.refusal, sent.answer);
     StepAnswer {
         refusal: sent.refusal,
-        job: onward(job, stage, sent.refusal, sent.answer),
+        job,
     }
 }

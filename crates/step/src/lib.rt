@@ -76,16 +76,17 @@ fn refuse(zone: Zone, job: Job) -> Stepped
 }
 
 // One step. The zone's form is checked once, by the request or by the check alone.
-pub fn jespurla_job_step(mut zone: Zone, job: Job) -> Stepped
+pub fn jespurla_job_step(mut zone: Zone, mut job: Job) -> Stepped
     ensures { StepPromise zone job result }
 {
     let Ok(stage) = stage::listed_stage(&job) else {
         return refuse(zone, job);
     };
     let sent = send(&mut zone, &job, stage);
+    onward(&mut job, stage, sent.refusal, sent.answer);
     Stepped {
         refusal: sent.refusal,
         zone,
-        job: onward(job, stage, sent.refusal, sent.answer),
+        job,
     }
 }

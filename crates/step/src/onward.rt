@@ -7,19 +7,19 @@ use job::answer;
 use job::job::Job;
 use job::stage::Stage;
 
-// The job as it goes on from its stage; the very same one where the request was refused, and where it
-// has ended.
-pub(crate) fn onward(job: Job, stage: Stage, refusal: u32, answer: u32) -> Job
-    requires { Stands job stage }
-    ensures { result ≡ cond (eqb refusal 0) (led job (rule_of stage job.count) answer) job }
+// The job goes on from its stage; it stays as it is where the request was refused, and where it has
+// ended.
+pub(crate) fn onward(job: &mut Job, stage: Stage, refusal: u32, answer: u32)
+    requires { Stands job.old stage }
+    ensures { job.new ≡ cond (eqb refusal 0) (led job.old (rule_of stage job.old.count) answer) job.old }
 {
     if refusal != 0 {
-        return job;
+        return;
     }
     match stage {
-        Stage::BeforeA | Stage::BeforeB => answer::after_add(job, job.count + 1, answer),
-        Stage::BeforeFirst => answer::after_first(job, answer),
-        Stage::BeforeSecond => answer::after_second(job, answer),
-        _ => job,
+        Stage::BeforeA | Stage::BeforeB => *job = answer::after_add(*job, job.count + 1, answer),
+        Stage::BeforeFirst => *job = answer::after_first(*job, answer),
+        Stage::BeforeSecond => *job = answer::after_second(*job, answer),
+        _ => {}
     }
 }
