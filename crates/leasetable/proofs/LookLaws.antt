@@ -186,7 +186,7 @@ module _ (clock : Moment) (key : Key) (t : List Lease) where
       }
 
 -- ---- from other candidates than none
--- The count and the ranks that were found.
+-- The count and the ranks that a find tells. By address the candidates' own, as `associated` takes them: fewer than four are all that there are; with four the table is gone through again, and by address none is found in it.
 abbrev pub told : Found → ℕ × List Rank
 told (OfAddress best kept ranks) = cond (eqb kept 4) (0, no_ranks) (kept, take 3 ranks ++ drop 3 no_ranks)
 told (OfClient best kept ranks) = (kept, ranks)
@@ -202,7 +202,7 @@ passed places d c (x ∷ xs) e =
     let w : client_wants c x ≡ false = ap (λ (k : Key). wanted c.clock k x) e ∙ and-false (active_at c.clock x) in
     ap (λ (b : Bool). foldl (client_turn places) (cond b (client_add places c x) c) xs) w ∙ passed places d c xs e
 
--- Whatever is looked for and from whatever candidates, they are those of the candidates with what the table has of them.
+-- By each kind of key and from whatever candidates, a find tells what `associated` has of them, once the table is scanned.
 pub told_all : (a : Candidates) (t : List Lease) → told (looked_from a t) ≡ ranks_in (associated (foldl (client_turn 4) a t) t)
 unfolding looked_from
 told_all a t = go a.key refl
